@@ -1,0 +1,8 @@
+pub mod Lists
+pub mod Leasts
+pub mod Checks
+pub mod Writes
+pub mod Parts
+pub mod Sames
+pub mod Numbers
+pub mod Signed

@@ -1,0 +1,171 @@
+-- The laws of numbers in a run of bytes, each once for every width and both byte orders.
+use Prim.Native.Nat.{ℕ, zero, suc, _+_, _-_, _*_, _/_, _%_, _^_, _≤_, _<_}
+use mathlib.Core.Path.{_≡_, refl, sym, _∙_, ap}
+use mathlib.Core.List.{List, [], _∷_, _++_, append-assoc}
+use native.Mathlib.Omega.{arith}
+use native.Mathlib.Nat.{add-assoc, add-zero, add-suc, zero-add, add-mul, sub-self, mul-one, mul-assoc, pow-suc, pow-zero, div-one, div-eq-of-lt, div-add-mod', div-div-eq-div-mul, mod-lt}
+use lib.ListN.{length, take, drop, getD, length-append, List·getD-append, List·getD-eq-default}
+use lib.Seq.{getD-take, getD-drop, getD-append-add}
+use Rattle.lent.specs.Lists.{table}
+use Rattle.lent.specs.Number.{Order, big, little, placeOf, value, digit, number, bytes, words}
+use Rattle.lent.specs.Part.{part, Same}
+use Rattle.lent.specs.Write.{write, zeros, pad}
+use Rattle.lent.proofs.Lists.{length-table, table-at}
+use Rattle.lent.proofs.Writes.{write-in, getD-zeros, pad-at}
+use Rattle.lent.proofs.Parts.{part-at}
+
+-- ---- digits
+
+pub place-lt : (o : Order) (n i : ℕ) → i < n → placeOf o n i < n
+place-lt big n i h = h
+place-lt little n i h = omega arith
+
+pub place-back : (o : Order) (n i : ℕ) → i < n → placeOf o n (placeOf o n i) ≡ i
+place-back big n i h = refl
+place-back little n i h = omega arith
+
+pub value-same : (n : ℕ) (d e : ℕ → ℕ) → ((i : ℕ) → i < n → d i ≡ e i) → value n d ≡ value n e
+unfolding value
+value-same zero d e h = refl
+value-same (suc n) d e h = rw (value-same n d e (λ i l. h i (omega arith)), h n (omega arith))
+
+pub value-small : (n : ℕ) (d : ℕ → ℕ) → ((i : ℕ) → i < n → d i < 256) → value n d < 256 ^ n
+unfolding value
+value-small zero d h = omega arith
+value-small (suc n) d h = rw pow-suc (omega (arith, value-small n d (λ i l. h i (omega arith)), h n (omega arith)))
+
+pub value-zero : (n : ℕ) (d : ℕ → ℕ) → ((i : ℕ) → i < n → d i ≡ 0) → value n d ≡ 0
+unfolding value
+value-zero zero d h = refl
+value-zero (suc n) d h = omega (arith, value-zero n d (λ i l. h i (omega arith)), h n (omega arith))
+
+pub value-join : (m n : ℕ) (d : ℕ → ℕ) → value (m + n) d ≡ value m d * 256 ^ n + value n (λ i. d (m + i))
+unfolding value
+value-join m zero d = simp (add-zero, pow-zero, mul-one)
+value-join m (suc n) d =
+    rw (add-suc, pow-suc, value-join m n d)
+    (omega (arith, mul-assoc (value m d) (256 ^ n) 256, add-mul (value m d * 256 ^ n) (value n (λ i. d (m + i))) 256))
+
+-- the first k digits of a number of n
+value-digit : (n v k : ℕ) → v < 256 ^ n → k ≤ n → value k (digit n v) ≡ v / 256 ^ (n - k)
+unfolding value digit
+value-digit n v zero h l = let e : n - 0 ≡ n = omega arith in rw e (sym (div-eq-of-lt h))
+value-digit n v (suc k) h l =
+    let j = n - suc k in
+    let e : n - k ≡ suc j = omega arith in
+    let q : n - 1 - k ≡ j = omega arith in
+    let a : value k (digit n v) ≡ v / 256 ^ j / 256 =
+    value-digit n v k h (omega arith) ∙ ap (λ (x : ℕ). v / 256 ^ x) e ∙ ap (λ (x : ℕ). v / x) (pow-suc 256 j) ∙ sym (div-div-eq-div-mul v (256 ^ j) 256) in
+    rw (a, q) (div-add-mod' (v / 256 ^ j) 256)
+
+-- ---- a number depends on its own bytes alone
+
+pub number-cong : (o : Order) (n : ℕ) (s : List ℕ) (a : ℕ) (t : List ℕ) (b : ℕ) → ((i : ℕ) → i < n → getD s (a + i) 0 ≡ getD t (b + i) 0)
+    → number o n s a ≡ number o n t b
+unfolding number
+number-cong o n s a t b h = value-same n _ _ (λ i l. h (placeOf o n i) (place-lt o n i l))
+
+module _ (o : Order) (n : ℕ) where
+  pub number-same : (f g : List ℕ) (a b at : ℕ) → Same f g a b → a ≤ at → at + n ≤ b → number o n g at ≡ number o n f at
+  number-same f g a b at h lo hi = number-cong o n g at f at (λ i l. h (at + i) (omega arith) (omega arith))
+
+  pub number-in : (f : List ℕ) (at : ℕ) (bs : List ℕ) (k : ℕ) → at ≤ length f → k + n ≤ length bs → number o n (write f at bs) (at + k) ≡ number o n bs k
+  number-in f at bs k fits h =
+      number-cong o n (write f at bs) (at + k) bs k (λ i l. rw add-assoc (write-in f at bs fits (k + i) (omega arith)))
+
+  pub number-shift : (k : ℕ) (s : List ℕ) (at : ℕ) → number o n (drop k s) at ≡ number o n s (k + at)
+  number-shift k s at = number-cong o n (drop k s) at s (k + at) (λ i l. rw add-assoc (getD-drop k s (at + i) 0))
+
+  pub number-take : (k : ℕ) (s : List ℕ) (at : ℕ) → at + n ≤ k → number o n (take k s) at ≡ number o n s at
+  number-take k s at h = number-cong o n (take k s) at s at (λ i l. getD-take k s (at + i) 0 (omega arith))
+
+  pub number-part : (from to : ℕ) (s : List ℕ) (at : ℕ) → at + n ≤ to - from → number o n (part from to s) at ≡ number o n s (from + at)
+  number-part from to s at h =
+      number-cong o n (part from to s) at s (from + at) (λ i l. rw add-assoc (part-at from to s (at + i) (omega arith)))
+
+  pub number-pad : (m : ℕ) (xs : List ℕ) (at : ℕ) → number o n (pad m xs) at ≡ number o n xs at
+  number-pad m xs at = number-cong o n (pad m xs) at xs at (λ i l. pad-at m xs (at + i))
+
+  -- in the first of two runs, and in the second
+  pub number-append : (s t : List ℕ) (at : ℕ) → at + n ≤ length s → number o n (s ++ t) at ≡ number o n s at
+  number-append s t at h = number-cong o n (s ++ t) at s at (λ i l. List·getD-append s t 0 (at + i) (omega arith))
+
+  pub number-after : (s t : List ℕ) (at : ℕ) → number o n (s ++ t) (length s + at) ≡ number o n t at
+  number-after s t at = number-cong o n (s ++ t) (length s + at) t at (λ i l. rw add-assoc (getD-append-add s t (at + i) 0))
+
+  -- zeros, and what lies past the end
+  pub number-zeros : (m at : ℕ) → number o n (zeros m) at ≡ 0
+  unfolding number
+  number-zeros m at = value-zero n _ (λ i l. getD-zeros m (at + placeOf o n i))
+
+  pub number-past : (s : List ℕ) (at : ℕ) → length s ≤ at → number o n s at ≡ 0
+  unfolding number
+  number-past s at h = value-zero n _ (λ i l. List·getD-eq-default s 0 (omega arith))
+
+  pub number-small : (s : List ℕ) (at : ℕ) → ((i : ℕ) → getD s i 0 < 256) → number o n s at < 256 ^ n
+  unfolding number
+  number-small s at h = value-small n _ (λ i l. h (at + placeOf o n i))
+
+  -- ---- a number as its bytes
+
+  pub length-bytes : (v : ℕ) → length (bytes o n v) ≡ n
+  unfolding bytes
+  length-bytes v = length-table n (λ i. digit n v (placeOf o n i))
+
+  pub bytes-at : (v i : ℕ) → i < n → getD (bytes o n v) i 0 ≡ digit n v (placeOf o n i)
+  unfolding bytes
+  bytes-at v i h = table-at n (λ i. digit n v (placeOf o n i)) i 0 h
+
+  pub number-bytes : (v : ℕ) (rest : List ℕ) → v < 256 ^ n → number o n (bytes o n v ++ rest) 0 ≡ v
+  unfolding number
+  number-bytes v rest h =
+      value-same n _ (digit n v)
+      (λ i l.
+      let k = place-lt o n i l in
+      List·getD-append (bytes o n v) rest 0 (0 + placeOf o n i) (omega (arith, length-bytes v))
+      ∙ ap (λ (x : ℕ). getD (bytes o n v) x 0) (zero-add (placeOf o n i))
+      ∙ bytes-at v (placeOf o n i) k ∙ ap (digit n v) (place-back o n i l))
+      ∙ value-digit n v n h (omega arith)
+      ∙ ap (λ (x : ℕ). v / 256 ^ x) (sub-self n) ∙ div-one v
+
+pub digit-small : (n v i : ℕ) → digit n v i < 256
+unfolding digit
+digit-small n v i = mod-lt (v / 256 ^ (n - 1 - i)) (omega arith)
+
+-- a wide number from two narrower ones
+pub number-join : (m n : ℕ) (s : List ℕ) (at : ℕ) → number big (m + n) s at ≡ number big m s at * 256 ^ n + number big n s (at + m)
+unfolding number
+number-join m n s at =
+    value-join m n (λ i. getD s (at + i) 0)
+    ∙ ap (λ (x : ℕ). value m (λ i. getD s (at + i) 0) * 256 ^ n + x)
+    (value-same n _ _ (λ i l. ap (λ (k : ℕ). getD s k 0) (sym (add-assoc at m i))))
+
+-- the bytes of two and of four, one by one
+pub number-two : (s : List ℕ) (at : ℕ) → number big 2 s at ≡ getD s at 0 * 256 + getD s (at + 1) 0
+unfolding number value
+number-two s at = simp add-zero (omega arith)
+
+pub number-four : (s : List ℕ) (at : ℕ)
+    → number big 4 s at ≡ getD s at 0 * 16777216 + getD s (at + 1) 0 * 65536 + getD s (at + 2) 0 * 256 + getD s (at + 3) 0
+unfolding number value
+number-four s at = simp add-zero (omega arith)
+
+pub bytes-four : (v a b c d : ℕ) → a ≡ v / 16777216 % 256 → b ≡ v / 65536 % 256 → c ≡ v / 256 % 256 → d ≡ v % 256 → a ∷ b ∷ c ∷ d ∷ [] ≡ bytes big 4 v
+unfolding bytes table digit
+bytes-four v a b c d p q r s = rw (p, q, r, s, div-one v)
+
+-- ---- words
+
+pub length-words : (vs : List ℕ) → length (words vs) ≡ 4 * length vs
+unfolding words
+length-words [] = refl
+length-words (v ∷ vs) = simp (length-append, length-words vs, length-bytes big 4 v) (omega arith)
+
+pub words-at : (vs rest : List ℕ) (i : ℕ) → i < length vs → getD vs i 0 < 4294967296 → number big 4 (words vs ++ rest) (4 * i) ≡ getD vs i 0
+unfolding words
+words-at [] rest i h l = absurd (omega arith)
+words-at (v ∷ vs) rest zero h l = rw append-assoc (number-bytes big 4 v (words vs ++ rest) l)
+words-at (v ∷ vs) rest (suc i) h l =
+    let b = bytes big 4 v in
+    let e : 4 * suc i ≡ length b + 4 * i = omega (arith, length-bytes big 4 v) in
+    rw (append-assoc, e) (number-after big 4 b (words vs ++ rest) (4 * i) ∙ words-at vs rest i (omega arith) l)

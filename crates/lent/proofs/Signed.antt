@@ -1,0 +1,17 @@
+-- Two's complement: the sum by which a negative number is made.
+use Prim.Native.Nat.{ℕ, _-_, _≤_, _<_}
+use mathlib.Core.Path.{_≡_, ap, _∙_}
+use native.Mathlib.Omega.{arith}
+use borrow.Author.Tests.{lt-ltb}
+use lib.IntN.{ℤ, negsuc, _+ℤ_}
+use mir.Syntax.{w16}
+use mir.Val.{toZ, SFits}
+use mir.Facts.{toZ-pos}
+
+pub low : (n : ℕ) → 32768 ≤ n → n < 65536 → toZ w16 (n - 32768) +ℤ negsuc 32767 ≡ negsuc (65535 - n)
+low n h k =
+    let a : n - 32768 < 32768 = omega arith in
+    ap (λ (z : ℤ). z +ℤ negsuc 32767) (toZ-pos w16 a) ∙ simp (lt-ltb (n - 32768) 32768 a) (ap negsuc (omega arith))
+
+pub low-fits : (n : ℕ) → 32768 ≤ n → SFits w16 (negsuc (65535 - n))
+low-fits n h = record { sfits = omega arith }

@@ -1,0 +1,216 @@
+-- The laws of `write`, the one way in which lent memory changes, and of zeros and padding.
+use Prim.Native.Nat.{ℕ, zero, suc, _+_, _-_, _≤_, _<_, max}
+use mathlib.Core.Path.{_≡_, refl, sym, _∙_, ap}
+use mathlib.Core.Logic.{⊎-elim}
+use mathlib.Core.List.{List, [], _++_, append-assoc, append-nil}
+use native.Mathlib.Omega.{arith}
+use native.Mathlib.Nat.{add-zero, sub-zero}
+use lib.ListN.{length, take, drop, getD, length-append, length-drop, take-append-drop, length-replicate, drop-of-length-le, replicate-append-replicate, List·getD-append, List·getD-eq-default}
+use lib.Seq.{length-take-le, getD-take, getD-drop, getD-append-add, take-at, drop-at, drop-drop, ext-getD}
+use Rattle.lent.specs.Write.{write, zeros, pad}
+use Rattle.lent.specs.Lists.{table}
+use Rattle.lent.proofs.Lists.{lt-or-ge, length-table, table-at}
+
+-- ---- zeros
+
+pub length-zeros : (n : ℕ) → length (zeros n) ≡ n
+unfolding zeros
+length-zeros n = length-replicate n 0
+
+pub getD-zeros : (n i : ℕ) → getD (zeros n) i 0 ≡ 0
+unfolding zeros
+getD-zeros zero i = refl
+getD-zeros (suc n) zero = refl
+getD-zeros (suc n) (suc i) = getD-zeros n i
+
+pub zeros-append : (m n : ℕ) → zeros m ++ zeros n ≡ zeros (m + n)
+unfolding zeros
+zeros-append m n = replicate-append-replicate m n 0
+
+pub table-zeros : (n : ℕ) → table n (λ i. 0) ≡ zeros n
+table-zeros n =
+    let f : ℕ → ℕ = λ i. 0 in
+    ext-getD 0 (table n f) (zeros n) (length-table n f ∙ sym (length-zeros n)) (λ i h. table-at n f i 0 (rw (length-table n f) at h) ∙ sym (getD-zeros n i))
+
+-- ---- where the bytes go within the length: the place `at` is at most the length
+
+front-length : (f : List ℕ) (at : ℕ) (a : List ℕ) → at ≤ length f → length (take at f ++ a) ≡ at + length a
+front-length f at a h = length-append (take at f) a ∙ ap (λ (k : ℕ). k + length a) (length-take-le at f h)
+
+module _ (f : List ℕ) (at : ℕ) (a : List ℕ) where
+  write-cut : write f at a ≡ (take at f ++ a) ++ drop (at + length a) f
+  unfolding write
+  write-cut = sym (append-assoc (take at f) a (drop (at + length a) f))
+
+  pub length-write-max : at ≤ length f → length (write f at a) ≡ max (length f) (at + length a)
+  unfolding write
+  length-write-max h = simp (length-append, length-drop) (omega (arith, length-take-le at f h))
+
+  pub length-write : at + length a ≤ length f → length (write f at a) ≡ length f
+  length-write h = omega (arith, length-write-max (omega arith))
+
+  pub take-write : at ≤ length f → take at (write f at a) ≡ take at f
+  unfolding write
+  take-write h = take-at (take at f) (a ++ drop (at + length a) f) at (length-take-le at f h)
+
+  pub drop-write : at ≤ length f → drop (at + length a) (write f at a) ≡ drop (at + length a) f
+  drop-write h =
+      ap (drop (at + length a)) write-cut
+      ∙ drop-at (take at f ++ a) (drop (at + length a) f) (at + length a) (front-length f at a h)
+
+  -- a place outside is as it was
+  pub write-before : at ≤ length f → (i : ℕ) → i < at → getD (write f at a) i 0 ≡ getD f i 0
+  write-before k i h =
+      sym (getD-take at (write f at a) i 0 h) ∙ ap (λ (l : List ℕ). getD l i 0) (take-write k) ∙ getD-take at f i 0 h
+
+  pub write-after : at ≤ length f → (i : ℕ) → at + length a ≤ i → getD (write f at a) i 0 ≡ getD f i 0
+  write-after k i h =
+      let n = at + length a in
+      let j = i - n in
+      let e : n + j ≡ i = omega arith in
+      ap (λ (m : ℕ). getD (write f at a) m 0) (sym e) ∙ sym (getD-drop n (write f at a) j 0) ∙ ap (λ (l : List ℕ). getD l j 0) (drop-write k)
+      ∙ getD-drop n f j 0 ∙ ap (λ (m : ℕ). getD f m 0) e
+
+  -- and one inside holds what was written, by its number there and by its place
+  pub write-in : at ≤ length f → (i : ℕ) → i < length a → getD (write f at a) (at + i) 0 ≡ getD a i 0
+  unfolding write
+  write-in k i h =
+      ap (λ (m : ℕ). getD (write f at a) (m + i) 0) (sym (length-take-le at f k))
+      ∙ getD-append-add (take at f) (a ++ drop (at + length a) f) i 0
+      ∙ List·getD-append a (drop (at + length a) f) 0 i h
+
+  pub write-at : at ≤ length f → (i : ℕ) → at ≤ i → i < at + length a → getD (write f at a) i 0 ≡ getD a (i - at) 0
+  write-at k i h l =
+      let e : at + (i - at) ≡ i = omega arith in
+      ap (λ (m : ℕ). getD (write f at a) m 0) (sym e) ∙ write-in k (i - at) (omega arith)
+
+-- ---- no bytes, the bytes that stand there, all bytes
+
+pub write-nothing : (f : List ℕ) (at : ℕ) → write f at [] ≡ f
+unfolding write
+write-nothing f at = simp add-zero (take-append-drop at f)
+
+pub write-same : (f : List ℕ) (at : ℕ) (a : List ℕ) → take (length a) (drop at f) ≡ a → write f at a ≡ f
+unfolding write
+write-same f at a e =
+    ap (λ (r : List ℕ). take at f ++ (r ++ drop (at + length a) f)) (sym e)
+    ∙ ap (λ (r : List ℕ). take at f ++ (take (length a) (drop at f) ++ r)) (sym (drop-drop (length a) at f))
+    ∙ ap (λ (r : List ℕ). take at f ++ r) (take-append-drop (length a) (drop at f)) ∙ take-append-drop at f
+
+-- the same, from the bytes one by one
+pub write-equal : (f : List ℕ) (at : ℕ) (a : List ℕ) → at + length a ≤ length f → ((i : ℕ) → i < length a → getD f (at + i) 0 ≡ getD a i 0) → write f at a ≡ f
+write-equal f at a h e =
+    let l : length (take (length a) (drop at f)) ≡ length a = length-take-le (length a) (drop at f) (simp length-drop (omega arith)) in
+    write-same f at a
+    (ext-getD 0 (take (length a) (drop at f)) a l
+    (λ i k. let m : i < length a = omega (arith, l, k) in getD-take (length a) (drop at f) i 0 m ∙ getD-drop at f i 0 ∙ e i m))
+
+pub write-all : (f a : List ℕ) → length f ≤ length a → write f 0 a ≡ a
+unfolding write
+write-all f a h = ap (λ (r : List ℕ). a ++ r) (drop-of-length-le f {i = 0 + length a} (omega arith)) ∙ append-nil a
+
+-- ---- two changes
+
+-- a write, from what stands before it and after it
+write-of : (g : List ℕ) (n : ℕ) (p q b : List ℕ) → take n g ≡ p → drop (n + length b) g ≡ q → write g n b ≡ p ++ (b ++ q)
+unfolding write
+write-of g n p q b t d = ap (λ (r : List ℕ). r ++ (b ++ drop (n + length b) g)) t ∙ ap (λ (r : List ℕ). p ++ (b ++ r)) d
+
+-- the second right after the first: one change
+pub write-next : (f : List ℕ) (at : ℕ) (a b : List ℕ) → at ≤ length f → write (write f at a) (at + length a) b ≡ write f at (a ++ b)
+write-next f at a b h =
+    let n = at + length a in
+    let l : n + length b ≡ at + length (a ++ b) = simp length-append (omega arith) in
+    let t : take n (write f at a) ≡ take at f ++ a = ap (take n) (write-cut f at a) ∙ take-at (take at f ++ a) (drop n f) n (front-length f at a h) in
+    let d : drop (n + length b) (write f at a) ≡ drop (at + length (a ++ b)) f =
+    sym (drop-drop (length b) n (write f at a)) ∙ ap (drop (length b)) (drop-write f at a h) ∙ drop-drop (length b) n f ∙ ap (λ (k : ℕ). drop k f) l in
+    write-of (write f at a) n (take at f ++ a) (drop (at + length (a ++ b)) f) b t d
+    ∙ sym (append-assoc (take at f ++ a) b (drop (at + length (a ++ b)) f))
+    ∙ ap (λ (r : List ℕ). r ++ drop (at + length (a ++ b)) f) (append-assoc (take at f) a b)
+    ∙ sym (write-cut f at (a ++ b))
+
+-- the same, of two stores in a row, as calls leave them
+pub write-then : (f g h : List ℕ) (at n : ℕ) (a b : List ℕ) → g ≡ write f at a → h ≡ write g n b → at + length a ≡ n → at ≤ length f → h ≡ write f at (a ++ b)
+write-then f g h at n a b p q e l =
+    q ∙ ap (λ (x : List ℕ). write x n b) p ∙ ap (λ (k : ℕ). write (write f at a) k b) (sym e) ∙ write-next f at a b l
+
+-- the second over the first: the first is gone
+pub write-over : (f : List ℕ) (at : ℕ) (a b : List ℕ) → at ≤ length f → length a ≤ length b → write (write f at a) at b ≡ write f at b
+write-over f at a b h k =
+    let j = length b - length a in
+    let e : at + length a + j ≡ at + length b = omega arith in
+    let d : (l : List ℕ) → drop (at + length b) l ≡ drop j (drop (at + length a) l) =
+    λ l. ap (λ (n : ℕ). drop n l) (sym e) ∙ sym (drop-drop j (at + length a) l) in
+    write-of (write f at a) at (take at f) (drop (at + length b) f) b (take-write f at a h) (d (write f at a) ∙ ap (drop j) (drop-write f at a h) ∙ sym (d f))
+    ∙ sym (write-of f at (take at f) (drop (at + length b) f) b refl refl)
+
+-- at places that do not meet: in either order
+pub write-comm : (f : List ℕ) (p q : ℕ) (a b : List ℕ) → p + length a ≤ q → q ≤ length f → write (write f p a) q b ≡ write (write f q b) p a
+write-comm f p q a b h k =
+    let g : List ℕ = write f p a in
+    let x : List ℕ = write f q b in
+    let lg : length g ≡ max (length f) (p + length a) = length-write-max f p a (omega arith) in
+    let lx : length x ≡ max (length f) (q + length b) = length-write-max f q b k in
+    let fg : q ≤ length g = omega arith in
+    let fx : p ≤ length x = omega arith in
+    let l₁ : length (write g q b) ≡ max (length g) (q + length b) = length-write-max g q b fg in
+    let l₂ : length (write x p a) ≡ max (length x) (p + length a) = length-write-max x p a fx in
+    ext-getD 0 (write g q b) (write x p a) (omega arith)
+    (λ i hi.
+    ⊎-elim
+    (λ (u : i < q).
+    write-before g q b fg i u
+    ∙ ⊎-elim (λ (v : i < p). write-before f p a (omega arith) i v ∙ sym (write-before f q b k i u) ∙ sym (write-before x p a fx i v))
+    (λ (v : p ≤ i).
+    ⊎-elim (λ (w : i < p + length a). write-at f p a (omega arith) i v w ∙ sym (write-at x p a fx i v w))
+    (λ (w : p + length a ≤ i). write-after f p a (omega arith) i w ∙ sym (write-before f q b k i u) ∙ sym (write-after x p a fx i w))
+    (lt-or-ge i (p + length a)))
+    (lt-or-ge i p))
+    (λ (u : q ≤ i).
+    ⊎-elim (λ (v : i < q + length b). write-at g q b fg i u v ∙ sym (write-at f q b k i u v))
+    (λ (v : q + length b ≤ i). write-after g q b fg i v ∙ write-after f p a (omega arith) i (omega arith) ∙ sym (write-after f q b k i v))
+    (lt-or-ge i (q + length b))
+    ∙ sym (write-after x p a fx i (omega arith)))
+    (lt-or-ge i q))
+
+-- ---- what a `&mut` slice holds after its part from `at` up to e was lent to a call
+
+pub put-write : (e at : ℕ) (f ys bytes : List ℕ) → ys ≡ bytes → at + length bytes ≡ e → take at f ++ (ys ++ drop (e - at) (drop at f)) ≡ write f at bytes
+unfolding write
+put-write e at f ys bytes q h =
+    let m : at + (e - at) ≡ at + length bytes = omega arith in
+    ap (λ (r : List ℕ). take at f ++ (ys ++ r)) (drop-drop (e - at) at f)
+    ∙ ap (λ (m : ℕ). take at f ++ (ys ++ drop m f)) m
+    ∙ ap (λ (r : List ℕ). take at f ++ (r ++ drop (at + length bytes) f)) q
+
+-- the same, of a call that left zeros there
+pub put-zeros : (e at n : ℕ) (f ys : List ℕ) → ys ≡ zeros (length (take (e - at) (drop at f))) → at + n ≡ e → e ≤ length f
+    → take at f ++ (ys ++ drop (e - at) (drop at f)) ≡ write f at (zeros n)
+put-zeros e at n f ys q h le =
+    let l : length (take (e - at) (drop at f)) ≡ e - at = length-take-le (e - at) (drop at f) (simp length-drop (omega arith)) in
+    let m : length (take (e - at) (drop at f)) ≡ n = omega arith in
+    put-write e at f ys (zeros n) (q ∙ ap zeros m) (omega (arith, length-zeros n))
+
+-- ---- bytes, and zeros after them
+
+pub length-pad : (n : ℕ) (xs : List ℕ) → length xs ≤ n → length (pad n xs) ≡ n
+unfolding pad
+length-pad n xs h = simp (length-append, length-zeros) (omega arith)
+
+pub pad-at : (n : ℕ) (xs : List ℕ) (i : ℕ) → getD (pad n xs) i 0 ≡ getD xs i 0
+unfolding pad
+pad-at n xs i =
+    ⊎-elim (λ (h : i < length xs). List·getD-append xs (zeros (n - length xs)) 0 i h)
+    (λ (h : length xs ≤ i).
+    let e : length xs + (i - length xs) ≡ i = omega arith in
+    ap (λ (k : ℕ). getD (xs ++ zeros (n - length xs)) k 0) (sym e) ∙ getD-append-add xs (zeros (n - length xs)) (i - length xs) 0
+    ∙ getD-zeros (n - length xs) (i - length xs) ∙ sym (List·getD-eq-default xs 0 h))
+    (lt-or-ge i (length xs))
+
+pub pad-none : (n : ℕ) (xs : List ℕ) → n ≤ length xs → pad n xs ≡ xs
+unfolding pad zeros
+pad-none n xs h = let e : n - length xs ≡ 0 = omega arith in rw e (append-nil xs)
+
+pub pad-zeros : (n : ℕ) → pad n [] ≡ zeros n
+unfolding pad
+pad-zeros n = rw sub-zero

@@ -1,0 +1,7 @@
+pub mod Part
+pub mod Lists
+pub mod Number
+pub mod Write
+pub mod Same
+pub mod Least
+pub mod Checks

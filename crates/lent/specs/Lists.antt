@@ -1,0 +1,29 @@
+-- A list by its elements' numbers, a test of every number below n, the numbers of 1 to n that a test takes, and tests in a row.
+use Prim.Native.Nat.{ℕ, zero, suc}
+use mathlib.Core.Bool.{Bool, true, false, cond}
+use mathlib.Core.List.{List, [], _∷_, _++_}
+
+-- f 0, f 1, .. f (n - 1)
+unfoldable pub table : {A : Type 0} → ℕ → (ℕ → A) → List A
+table zero f = []
+table (suc n) f = table n f ++ (f n ∷ [])
+
+-- both
+abbrev pub also : Bool → Bool → Bool
+also true b = b
+also false b = false
+
+-- every test of the list holds
+abbrev pub all : List Bool → Bool
+all [] = true
+all (t ∷ ts) = also t (all ts)
+
+-- the test holds of every number below n
+unfoldable pub every : ℕ → (ℕ → Bool) → Bool
+every zero p = true
+every (suc n) p = also (every n p) (p n)
+
+-- the numbers of 1 to n that the test takes, in order
+unfoldable pub those : (ℕ → Bool) → ℕ → List ℕ
+those p zero = []
+those p (suc n) = those p n ++ cond (p (suc n)) (suc n ∷ []) []
