@@ -1,0 +1,124 @@
+-- The frame law: a file with the same length, bootstrap, index and bytes of every listed scan opens alike, lists the same and shows the same.
+use Prim.Native.Nat.{ℕ, _+_, _-_, _*_, _≤_, _<_}
+use mathlib.Core.Path.{_≡_, refl, sym, _∙_, ap}
+use mathlib.Core.List.{List}
+use mathlib.Core.Logic.{⊎-elim}
+use native.Mathlib.Omega.{arith}
+use lib.ListN.{length, drop, getD}
+use Rattle.lent.specs.Number.{big, be32}
+use Rattle.lent.specs.Part.{part, Same}
+use Rattle.lent.proofs.Lists.{lt-or-ge}
+use Rattle.lent.proofs.Numbers.{number-same}
+use Rattle.lent.proofs.Parts.{part-same, same-within}
+use Rattle.paper.specs.declared.sizes.Sizes.{Sizes}
+use Rattle.paper.specs.declared.sizes.Run.{Run}
+use Rattle.paper.specs.Sizes.{sizesOf, versionOf, capacityOf, startOf, homeOf}
+use Rattle.paper.specs.Index.{runOf, shownOf, entryAt, Lies, Laid, Booted, Sound}
+use Rattle.paper.proofs.Sizing.{head-long, head-in, home-end}
+use Rattle.paper.proofs.Opening.{inside-all}
+
+-- ---- what rests on which bytes
+
+-- an index is laid by its runs alone
+pub laid-same : {z : Sizes} {run new : ℕ → Run} → z .u ≤ capacityOf z → ((s : ℕ) → 1 ≤ s → s ≤ capacityOf z → new s ≡ run s) → Laid z run → Laid z new
+laid-same u e L =
+    record {
+      inside = λ s a b. rw (e s a (omega arith)) (L .inside s a b);
+      above = λ s a b. rw (e s (omega arith) b) (L .above s a b);
+      apart = λ s t r a b c. rw (e s a (omega arith), e t (omega arith) (omega arith)) (L .apart s t r a b c);
+    }
+
+module _ (f g : List ℕ) where
+  -- the bootstrap is read from the first 32 bytes
+  pub booted-same : {z : Sizes} → length g ≡ length f → Same f g 0 32 → Booted f z → Booted g z
+  booted-same {z} e h b =
+      let word : (o : ℕ) → o + 4 ≤ 32 → be32 g o ≡ be32 f o = λ o k. number-same big 4 f g 0 32 o h (omega arith) k in
+      record {
+        reads =
+            rw (
+              word 0 (omega arith),
+              word 4 (omega arith),
+              word 8 (omega arith),
+              word 12 (omega arith),
+              word 16 (omega arith),
+              word 20 (omega arith),
+              word 24 (omega arith),
+            )
+            (b .reads);
+        long = rw e (b .long);
+        version = word 28 (omega arith) ∙ b .version;
+        ranged = b .ranged;
+        held = rw e (b .held);
+      }
+
+  -- a run from the first 8 bytes of its entry
+  pub run-same : (z : Sizes) (s : ℕ) → Same f g (homeOf z s) (homeOf z s + 8) → runOf g z s ≡ runOf f z s
+  run-same z s h =
+      rw (
+        number-same big 4 f g (homeOf z s) (homeOf z s + 8) (homeOf z s) h (omega arith) (omega arith),
+        number-same big 4 f g (homeOf z s) (homeOf z s + 8) (homeOf z s + 4) h (omega arith) (omega arith),
+      )
+
+  -- and what a slot shows from its run and the bytes of its records
+  pub shown-same : (z : Sizes) (s : ℕ) → length g ≡ length f → runOf g z s ≡ runOf f z s
+      → Same f g (startOf z (runOf f z s .first)) (runOf f z s .last * z .l) → shownOf g z s ≡ shownOf f z s
+  shown-same z s e r h =
+      ap (λ (x : Run). part (startOf z (x .first)) (x .last * z .l) g) r
+      ∙ part-same f g (startOf z (runOf f z s .first)) (runOf f z s .last * z .l) e h
+
+  pub entry-same : (z : Sizes) (s : ℕ) → length g ≡ length f → Same f g (homeOf z s) (homeOf z s + z .m) → entryAt g z s ≡ entryAt f z s
+  entry-same z s e h = part-same f g (homeOf z s) (homeOf z s + z .m) e h
+
+-- ---- the law
+
+-- g lists what f lists, with the same entries and the same bytes
+pub record Kept (z : Sizes) (f g : List ℕ) : Type 0 where
+  pub runs : (s : ℕ) → 1 ≤ s → s ≤ capacityOf z → runOf g z s ≡ runOf f z s
+  pub shown : (s : ℕ) → 1 ≤ s → s ≤ capacityOf z → shownOf g z s ≡ shownOf f z s
+  pub entries : (s : ℕ) → 1 ≤ s → s ≤ capacityOf z → entryAt g z s ≡ entryAt f z s
+
+pub kept-then : {z : Sizes} {f g h : List ℕ} → Kept z f g → Kept z g h → Kept z f h
+kept-then p q =
+    record {
+      runs = λ s a b. q .runs s a b ∙ p .runs s a b;
+      shown = λ s a b. q .shown s a b ∙ p .shown s a b;
+      entries = λ s a b. q .entries s a b ∙ p .entries s a b;
+    }
+
+-- g has f's bytes in bootstrap, index and every listed scan: what may differ is the rest of the data section
+pub record Frame (z : Sizes) (f g : List ℕ) : Type 0 where
+  pub len : length g ≡ length f
+  pub head : Same f g 0 (z .n * z .l)
+  pub body : (s : ℕ) → 1 ≤ s → s ≤ z .u → Same f g (startOf z (runOf f z s .first)) (runOf f z s .last * z .l)
+
+module _ {z : Sizes} {f g : List ℕ} (S : Sound f z) (F : Frame z f g) where
+  home-same : (s n : ℕ) → 1 ≤ s → s ≤ capacityOf z → n ≤ z .m → Same f g (homeOf z s) (homeOf z s + n)
+  home-same s n a b h = same-within f g (omega arith) (omega (arith, home-end z (S .booted .ranged .shape) s a b)) (F .head)
+
+  runs : (s : ℕ) → 1 ≤ s → s ≤ capacityOf z → runOf g z s ≡ runOf f z s
+  runs s a b = run-same f g z s (home-same s 8 a b (omega (arith, S .booted .ranged .shape .m-low)))
+
+  -- an empty slot has no bytes
+  body : (s : ℕ) → 1 ≤ s → s ≤ capacityOf z → Same f g (startOf z (runOf f z s .first)) (runOf f z s .last * z .l)
+  body s a b i lo hi =
+      ⊎-elim
+      (λ (h : z .u < s).
+      let e : runOf f z s .last ≡ 0 = omega (arith, S .laid .above s h b) in
+      absurd (omega (arith, ap (λ (x : ℕ). x * z .l) e)))
+      (λ (h : s ≤ z .u). F .body s a h i lo hi)
+      (lt-or-ge (z .u) s)
+
+  pub frame-kept : Kept z f g
+  frame-kept =
+      record {
+        runs = runs;
+        shown = λ s a b. shown-same f g z s (F .len) (runs s a b) (body s a b);
+        entries = λ s a b. entry-same f g z s (F .len) (home-same s (z .m) a b (omega arith));
+      }
+
+  pub frame-sound : Sound g z
+  frame-sound =
+      record {
+        booted = booted-same f g (F .len) (same-within f g (omega arith) (omega (arith, head-long z (S .booted .ranged .shape))) (F .head)) (S .booted);
+        laid = laid-same (S .booted .ranged .used) runs (S .laid);
+      }

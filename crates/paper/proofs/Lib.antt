@@ -1,0 +1,14 @@
+pub mod Sizing
+pub mod Writes
+pub mod Opening
+pub mod Agreement
+pub mod Rules
+pub mod Reasons
+pub mod Answers
+pub mod Table
+pub mod Classes
+pub mod Encoding
+pub mod Frame
+pub mod Free
+pub mod Bootstrap
+pub mod IndexLaw

@@ -1,0 +1,9 @@
+pub mod Refusals
+pub mod Sizes
+pub mod Index
+pub mod Entry
+pub mod Scan
+pub mod Look
+pub mod Store
+pub mod Step
+pub mod Lister

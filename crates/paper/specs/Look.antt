@@ -1,0 +1,82 @@
+-- 01, "What the tablet does with a file": list, entry, show and read, each with the refusals of open before its own.
+use Prim.Native.Nat.{ℕ, _+_, _-_, _*_}
+use mathlib.Core.Bool.{Bool, false, not, cond}
+use mathlib.Core.List.{List, [], _∷_, _++_}
+use lib.Dec.{ltb, leb}
+use lib.ListN.{length}
+use Rattle.lent.specs.Lists.{all}
+use Rattle.lent.specs.Checks.{Check, Fired, clear, fires, check, fired, judge}
+use Rattle.lent.specs.Write.{write}
+use Rattle.paper.specs.declared.sizes.Sizes.{Sizes}
+use Rattle.paper.specs.declared.sizes.Run.{Run}
+use Rattle.paper.specs.declared.refusal.Refusal.{Refusal}
+use Rattle.paper.specs.declared.refusal.Refusal.the-variants.{NoSuchSlot, EmptySlot, BadScan, TooSmall}
+use Rattle.paper.specs.declared.answer.Listed.{Listed}
+use Rattle.paper.specs.declared.answer.Listed.the-variants as listed
+use Rattle.paper.specs.declared.answer.Span.{Span}
+use Rattle.paper.specs.declared.answer.Span.the-variants.{Part, Refused}
+use Rattle.paper.specs.declared.answer.Ruled.{Ruled}
+use Rattle.paper.specs.declared.answer.Ruled.the-variants.{Keeps, Breaks}
+use Rattle.paper.specs.declared.answer.Taken.{Taken}
+use Rattle.paper.specs.declared.answer.Taken.the-variants as taken
+use Rattle.paper.specs.declared.entry.Found.{Found}
+use Rattle.paper.specs.Sizes.{sizesOf, capacityOf, homeOf, startOf}
+use Rattle.paper.specs.Index.{runOf, empty, slotsOf, shownOf, openChecks}
+use Rattle.paper.specs.Entry.{fieldsOf, noEntry}
+use Rattle.paper.specs.Scan.{ruledOf}
+
+-- "it writes slot, first and last as three 32-bit numbers per scan in slot order"
+unfoldable pub linesOf : (ℕ → Run) → List ℕ → List ℕ
+linesOf run [] = []
+linesOf run (s ∷ ss) = s ∷ run s .first ∷ run s .last ∷ linesOf run ss
+
+-- the slots that a file lists
+abbrev pub listOf : List ℕ → List ℕ
+listOf f = slotsOf (sizesOf f) (runOf f (sizesOf f))
+
+-- "Listing: 1 to 8, then 17"
+abbrev pub listChecks : List ℕ → List ℕ → List (Check Refusal)
+listChecks f out = openChecks f ++ (check (ltb (length out) (3 * length (listOf f))) TooSmall ∷ [])
+
+-- "answers the number of scans"
+unfoldable pub listedOf : List ℕ → List ℕ → Listed
+listedOf f out = judge listed.Refused (listChecks f out) (listed.Scans (length (listOf f)))
+
+-- what was lent for the list, afterwards: "and no further element"
+unfoldable pub listedOut : List ℕ → List ℕ → List ℕ
+listedOut f out = judge (λ r. out) (listChecks f out) (write out 0 (linesOf (runOf f (sizesOf f)) (listOf f)))
+
+-- "slot outside 1 to capacity"
+abbrev pub noSlot : Sizes → ℕ → Check Refusal
+noSlot z s = check (not (all (leb 1 s ∷ leb s (capacityOf z) ∷ []))) NoSuchSlot
+
+-- "slot empty (entry, show, read, clear)"
+abbrev pub noScan : Run → Check Refusal
+noScan r = check (empty r) EmptySlot
+
+-- 1 to 8, then 9, then 10
+abbrev pub slotChecks : List ℕ → ℕ → List (Check Refusal)
+slotChecks f s = openChecks f ++ (noSlot (sizesOf f) s ∷ noScan (runOf f (sizesOf f) s) ∷ [])
+
+-- "read a slot's index entry"
+unfoldable pub foundOf : List ℕ → ℕ → Found
+foundOf f s =
+    judge (λ r. record { answer = taken.Refused r; entry = noEntry }) (slotChecks f s)
+    (record { answer = taken.Accepted; entry = fieldsOf f (homeOf (sizesOf f) s) })
+
+-- "show a slot's records (the part of the lent file from first to last)"
+abbrev pub recordsSpan : Sizes → Run → Span
+recordsSpan z r = Part (startOf z (r .first)) (r .last * z .l)
+
+unfoldable pub showOf : List ℕ → ℕ → Span
+showOf f s = judge Refused (slotChecks f s) (recordsSpan (sizesOf f) (runOf f (sizesOf f) s))
+
+-- "A read answers the first HEADLEN + DATALEN bytes of the entry's records"
+abbrev pub readIn : ℕ → Ruled → Span
+readIn from (Keeps head rest) = Part from (from + (head + rest))
+readIn from (Breaks reason) = Refused (BadScan reason)
+
+unfoldable pub readOf : List ℕ → ℕ → Span
+readOf f s =
+    judge Refused (slotChecks f s)
+    (readIn (startOf (sizesOf f) (runOf f (sizesOf f) s .first)) (ruledOf (shownOf f (sizesOf f) s) false))

@@ -1,0 +1,136 @@
+-- 01, "The scan": its preamble, its rules, its classes and its data, over a run of bytes.
+use Prim.Native.Nat.{ℕ, _+_, _-_, _*_, _%_, _≤_}
+use mathlib.Core.Path.{_≡_}
+use mathlib.Core.Bool.{Bool, true, false, not, cond}
+use mathlib.Core.List.{List, [], _∷_}
+use lib.Dec.{leb, eqb}
+use lib.ListN.{getD, length}
+use lib.IntN.{ℤ, pos}
+use lib.Signed.{ltZ}
+use Rattle.lent.specs.Number.{be16, be64, int16}
+use Rattle.lent.specs.Lists.{table, every, all}
+use Rattle.lent.specs.Checks.{Check, check, judge}
+use Rattle.lent.specs.Part.{part}
+use Rattle.whole.specs.Length.{lengthOf, sizeOf, isWhole}
+use Rattle.paper.specs.declared.answer.Ruled.{Ruled}
+use Rattle.paper.specs.declared.answer.Ruled.the-variants.{Keeps, Breaks}
+use Rattle.paper.specs.declared.answer.Span.{Span}
+use Rattle.paper.specs.declared.answer.Span.the-variants.{Part, Refused}
+use Rattle.paper.specs.declared.refusal.Refusal.the-variants.{BadScan}
+use Rattle.paper.specs.Entry.{naturalOf}
+
+-- "the number of classes (Integer*2)"; a negative one counts as 0
+unfoldable pub classesOf : List ℕ → ℕ
+classesOf s = naturalOf (int16 (be16 s 0))
+
+-- "then fifteen class starts (Integer*2 each)"
+unfoldable pub startsOf : List ℕ → List ℤ
+startsOf s = table 15 (λ k. int16 (be16 s (2 + 2 * k)))
+
+-- start k + 1, a word number counted from 1; 0 for a negative one
+abbrev pub wordOf : List ℤ → ℕ → ℕ
+wordOf starts k = naturalOf (getD starts k (pos 0))
+
+-- "Class 1 opens with HEADLEN and DATALEN, both Real*8 counts of bytes"
+abbrev pub headlen : List ℕ → ℕ
+headlen s = sizeOf (lengthOf (be64 s 32))
+
+abbrev pub datalen : List ℕ → ℕ
+datalen s = sizeOf (lengthOf (be64 s 40))
+
+-- 1. "S is at least 256, and at most 65,536 when saving"
+unfoldable pub rule1 : ℕ → Bool → Bool
+rule1 size saving = all (leb 256 size ∷ cond saving (leb size 65536) true ∷ [])
+
+-- 2. "13 to 15 classes"
+unfoldable pub rule2 : ℕ → Bool
+rule2 n = all (leb 13 n ∷ leb n 15 ∷ [])
+
+-- 3. "Start 1 is 5, start 2 is at least 21, each start is greater than the one before"
+unfoldable pub rising : List ℤ → ℕ → Bool
+rising starts n = every (n - 1) (λ k. ltZ (getD starts k (pos 0)) (getD starts (k + 1) (pos 0)))
+
+unfoldable pub rule3 : List ℤ → ℕ → Bool
+rule3 starts n = all (eqb (wordOf starts 0) 5 ∷ leb 21 (wordOf starts 1) ∷ rising starts n ∷ [])
+
+-- 4. "HEADLEN is a whole number, a multiple of 8, at least 8 times the last class's start, at most S and at most 65,536"
+unfoldable pub rule4 : List ℕ → ℕ → Bool
+rule4 s last =
+    all
+    (isWhole (lengthOf (be64 s 32))
+    ∷ eqb (headlen s % 8) 0
+    ∷ leb (8 * last) (headlen s)
+    ∷ leb (headlen s) (length s)
+    ∷ leb (headlen s) 65536
+    ∷ [])
+
+-- 5. "DATALEN is a whole number, a multiple of 4, at most 65,536, and HEADLEN + DATALEN is at most S"
+unfoldable pub rule5 : List ℕ → Bool
+rule5 s =
+    all
+    (isWhole (lengthOf (be64 s 40))
+    ∷ eqb (datalen s % 4) 0
+    ∷ leb (datalen s) 65536
+    ∷ leb (headlen s + datalen s) (length s)
+    ∷ [])
+
+-- 6. "When saving, HEADLEN + DATALEN equals S"
+unfoldable pub rule6 : List ℕ → Bool → Bool
+rule6 s saving = cond saving (eqb (headlen s + datalen s) (length s)) true
+
+-- "The rules, in order"
+abbrev pub ruleChecks : List ℕ → Bool → List (Check ℕ)
+ruleChecks s saving =
+    check (not (rule1 (length s) saving)) 1
+    ∷ check (not (rule2 (classesOf s))) 2
+    ∷ check (not (rule3 (startsOf s) (classesOf s))) 3
+    ∷ check (not (rule4 s (wordOf (startsOf s) (classesOf s - 1)))) 4
+    ∷ check (not (rule5 s)) 5
+    ∷ check (not (rule6 s saving)) 6
+    ∷ []
+
+-- "the number of the first one broken is the reason in refusal 11"
+unfoldable pub ruledOf : List ℕ → Bool → Ruled
+ruledOf s saving = judge Breaks (ruleChecks s saving) (Keeps (headlen s) (datalen s))
+
+-- the byte at which the class after k others starts: "a Real*8 word number counted from 1"
+unfoldable pub classAt : List ℤ → ℕ → ℕ
+classAt starts k = 8 * (wordOf starts k - 1)
+
+-- "Each class runs from its start to the next class's start, the last one to HEADLEN"
+unfoldable pub classEnd : List ℤ → ℕ → ℕ → ℕ → ℕ
+classEnd starts n head number = cond (eqb number n) head (classAt starts number)
+
+-- "then an empty part for a class number outside 1 to the count"
+unfoldable pub classIn : List ℤ → ℕ → ℕ → ℕ → Span
+classIn starts n head number =
+    cond (all (leb 1 number ∷ leb number n ∷ [])) (Part (classAt starts (number - 1)) (classEnd starts n head number)) (Part 0 0)
+
+-- what is asked of a scan that keeps the rules; 11 with the reason where one is broken
+abbrev pub ofRuled : (ℕ → ℕ → Span) → Ruled → Span
+ofRuled k (Keeps head rest) = k head rest
+ofRuled k (Breaks reason) = Refused (BadScan reason)
+
+-- "Asked of a run of bytes, a class gives 11 where rules 1 to 5 are broken"
+unfoldable pub classOf : List ℕ → ℕ → Span
+classOf s number = ofRuled (λ head rest. classIn (startsOf s) (classesOf s) head number) (ruledOf s false)
+
+-- "the data follow at once"
+unfoldable pub dataOf : List ℕ → Span
+dataOf s = ofRuled (λ head rest. Part head (head + rest)) (ruledOf s false)
+
+-- the part of what was lent that a span names; nothing where the call is refused
+abbrev pub partOf : List ℕ → Span → List ℕ
+partOf s (Part from to) = part from to s
+partOf s (Refused r) = []
+
+-- what `ruledOf s saving ≡ Keeps head rest` says of the lengths, besides the rules 1 to 3
+pub record Lengths (s : List ℕ) (saving : Bool) (head rest : ℕ) : Type 0 where
+  pub head-is : headlen s ≡ head
+  pub rest-is : datalen s ≡ rest
+  pub long : 256 ≤ length s
+  pub within : head + rest ≤ length s
+  pub head-small : head ≤ 65536
+  pub rest-small : rest ≤ 65536
+  pub fills : saving ≡ true → head + rest ≡ length s
+  pub short : saving ≡ true → length s ≤ 65536

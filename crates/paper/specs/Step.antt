@@ -1,0 +1,106 @@
+-- 01, "A save, record by record": one step of a job, for any file, scan and job: the file, the job and the answer after it.
+use Prim.Native.Nat.{ℕ, _+_, _-_, _*_}
+use mathlib.Core.Bool.{Bool, true, false, not, cond}
+use mathlib.Core.List.{List, [], _∷_}
+use lib.Dec.{ltb, leb, eqb}
+use lib.ListN.{length, take, getD}
+use Rattle.lent.specs.Lists.{all}
+use Rattle.lent.specs.Checks.{Fired, clear, fires, fired}
+use Rattle.lent.specs.Part.{part}
+use Rattle.lent.specs.Same.{same}
+use Rattle.paper.specs.declared.sizes.Sizes.{Sizes}
+use Rattle.paper.specs.declared.refusal.Refusal.{Refusal}
+use Rattle.paper.specs.declared.refusal.Refusal.the-variants.{Disagrees, Differs}
+use Rattle.paper.specs.declared.answer.Opened.{Opened}
+use Rattle.paper.specs.declared.answer.Opened.the-variants as opened
+use Rattle.paper.specs.declared.job.Job.{Job}
+use Rattle.paper.specs.declared.job.Step.{Step}
+use Rattle.paper.specs.declared.job.Step.the-variants.{Wrote, Saved, Cleared, Refused}
+use Rattle.paper.specs.declared.job.Stepped.{Stepped}
+use Rattle.paper.specs.Sizes.{sizesOf, bootBytes, capacityOf, startOf, homeOf, roomOf, bootChecks}
+use Rattle.paper.specs.Index.{openOf, entryAt}
+use Rattle.paper.specs.Store.{Write, perform, countOf, paddedOf, sizesAfter, entryAfter, writesOf}
+
+-- no refusal fired
+abbrev pub isClear : Fired Refusal → Bool
+isClear clear = true
+isClear (fires r) = false
+
+-- 14, its causes: each test holds where job and file agree. z is what the file's bootstrap says.
+abbrev pub agreeTests : List ℕ → List ℕ → Job → Sizes → List Bool
+agreeTests f scan j z =
+    eqb (length scan) (j .size)
+    ∷ eqb (length f) (j .span)
+    ∷ same (take 32 f) (j .boot)
+    ∷ isClear (fired (bootChecks f))
+    ∷ cond (j .saves) (ltb 0 (length scan)) true
+    ∷ leb 1 (j .slot)
+    ∷ leb (j .slot) (capacityOf z)
+    ∷ cond (j .saves) (ltb (z .n) (j .first)) true
+    ∷ cond (j .saves) (leb (j .first + countOf z j) (roomOf z (length f) + 1)) true
+    ∷ leb (j .written) (length (writesOf z j scan))
+    ∷ []
+
+unfoldable pub agrees : List ℕ → List ℕ → Job → Bool
+agrees f scan j = all (agreeTests f scan j (sizesOf f))
+
+-- past the last write there is none: no bytes at place 0, record 0
+abbrev pub noWrite : Write
+noWrite = record { at = 0; bytes = []; record-no = 0 }
+
+-- the write at the job's place in its list
+abbrev pub writeAt : Sizes → List ℕ → Job → Write
+writeAt z scan j = getD (writesOf z j scan) (j .written) noWrite
+
+-- a write is left
+abbrev pub hasLeft : Sizes → List ℕ → Job → Bool
+hasLeft z scan j = ltb (j .written) (length (writesOf z j scan))
+
+-- "Each step writes at most one record"
+unfoldable pub stepFile : List ℕ → List ℕ → Job → List ℕ
+stepFile f scan j = cond (agrees f scan j) (perform f (writeAt (sizesOf f) scan j)) f
+
+-- the job one write on; it then expects the bootstrap that it wrote
+abbrev pub moved : Sizes → List ℕ → Job → Job
+moved z scan j =
+    record {
+      saves = j .saves;
+      slot = j .slot;
+      size = j .size;
+      span = j .span;
+      first = j .first;
+      written = j .written + 1;
+      boot = cond (eqb (j .written) (countOf z j)) (bootBytes (sizesAfter z j)) (j .boot);
+      about = j .about;
+    }
+
+unfoldable pub stepJob : List ℕ → List ℕ → Job → Job
+stepJob f scan j = cond (agrees f scan j) (cond (hasLeft (sizesOf f) scan j) (moved (sizesOf f) scan j) j) j
+
+-- "compares the entry's M bytes and the k records, padding included, with what the job and the scan give"
+unfoldable pub stands : List ℕ → List ℕ → Job → Sizes → Bool
+stands f scan j z =
+    all
+    (same (entryAt f z (j .slot)) (entryAfter z j)
+    ∷ same (part (startOf z (j .first)) (startOf z (j .first) + countOf z j * z .l) f) (paddedOf z j scan)
+    ∷ [])
+
+-- "and answers Saved": record 0 and the count
+abbrev pub confirmed : Job → Step
+confirmed j = cond (j .saves) (Saved 0 (j .written)) (Cleared 0 (j .written))
+
+-- "The confirming step then gives 1 to 8, then 15"
+abbrev pub confirmOf : List ℕ → List ℕ → Job → Opened → Step
+confirmOf f scan j (opened.Refused r) = Refused r
+confirmOf f scan j (opened.Opens z) = cond (stands f scan j z) (confirmed j) (Refused Differs)
+
+-- "The answer to a step says which record it wrote and how many records it has written so far"
+abbrev pub wroteOf : Sizes → List ℕ → Job → Step
+wroteOf z scan j = Wrote (writeAt z scan j .record-no) (j .written + 1)
+
+unfoldable pub stepAnswer : List ℕ → List ℕ → Job → Step
+stepAnswer f scan j =
+    cond (agrees f scan j) (cond (hasLeft (sizesOf f) scan j) (wroteOf (sizesOf f) scan j) (confirmOf f scan j (openOf f))) (Refused Disagrees)
+
+unfoldable pub steppedOf : List ℕ → List ℕ → Job → Stepped
+steppedOf f scan j = record { answer = stepAnswer f scan j; job = stepJob f scan j }

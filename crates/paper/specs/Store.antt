@@ -1,0 +1,182 @@
+-- 01, "A save, record by record": blank; what save, keep and clear answer, the job that they hand back, and the writes that the job stands for.
+use Prim.Native.Nat.{ℕ, zero, suc, _+_, _-_, _*_, _/_, _%_, max}
+use mathlib.Core.Bool.{Bool, true, false, not, cond}
+use mathlib.Core.List.{List, [], _∷_, _++_}
+use lib.Dec.{ltb, leb, eqb}
+use lib.ListN.{length, take, drop, replicate}
+use Rattle.lent.specs.Lists.{all}
+use Rattle.lent.specs.Least.{least}
+use Rattle.lent.specs.Checks.{Check, check, judge}
+use Rattle.lent.specs.Write.{write, zeros, pad}
+use Rattle.paper.specs.declared.sizes.Sizes.{Sizes}
+use Rattle.paper.specs.declared.sizes.Run.{Run}
+use Rattle.paper.specs.declared.refusal.Refusal.{Refusal}
+use Rattle.paper.specs.declared.refusal.Refusal.the-variants.{NoEmptySlot, BadScan, NoRoom, BadBlank}
+use Rattle.paper.specs.declared.answer.Ruled.{Ruled}
+use Rattle.paper.specs.declared.answer.Ruled.the-variants.{Keeps, Breaks}
+use Rattle.paper.specs.declared.answer.Taken.{Taken}
+use Rattle.paper.specs.declared.answer.Taken.the-variants.{Accepted, Refused}
+use Rattle.paper.specs.declared.job.Job.{Job}
+use Rattle.paper.specs.declared.job.Begun.{Begun}
+use Rattle.paper.specs.Sizes.{sizesOf, bootBytes, renewed, capacityOf, recordOf, startOf, homeOf, roomOf, shaped}
+use Rattle.paper.specs.Index.{runOf, empty, sharer, openChecks}
+use Rattle.paper.specs.Entry.{entryBytes}
+use Rattle.paper.specs.Scan.{ruledOf}
+use Rattle.paper.specs.Look.{noSlot, noScan, slotChecks}
+
+-- ---- blank
+
+-- "D = U = counter = type = 0"
+abbrev pub blankSizes : ℕ → ℕ → ℕ → Sizes
+blankSizes n l m = record { n = n; d = 0; l = l; m = m; u = 0; counter = 0; kind = 0 }
+
+-- 16: "N, L or M outside the ranges, capacity above 4,096, or N x L exceeds the lent length"
+abbrev pub blankChecks : List ℕ → Sizes → List (Check Refusal)
+blankChecks f z = check (not (all (shaped z ∷ leb (z .n * z .l) (length f) ∷ []))) BadBlank ∷ []
+
+unfoldable pub blankOf : List ℕ → ℕ → ℕ → ℕ → Taken
+blankOf f n l m = judge Refused (blankChecks f (blankSizes n l m)) Accepted
+
+-- "Blank writes N records, .. zeros after word 8, and touches nothing beyond"
+unfoldable pub blankFile : List ℕ → ℕ → ℕ → ℕ → List ℕ
+blankFile f n l m = judge (λ r. f) (blankChecks f (blankSizes n l m)) (write f 0 (pad (n * l) (bootBytes (blankSizes n l m))))
+
+-- ---- beginning
+
+-- "Let k be S / L rounded up"
+abbrev pub recordsFor : Sizes → ℕ → ℕ
+recordsFor z size = (size + (z .l - 1)) / z .l
+
+-- the run of k records from r on
+abbrev pub runFrom : ℕ → ℕ → Run
+runFrom r k = record { first = r; last = r + k - 1 }
+
+-- "r to r+k-1 lie within the room and belong to no listed scan, the slot's present scan included"
+abbrev pub freeTests : Sizes → ℕ → (ℕ → Run) → ℕ → ℕ → List Bool
+freeTests z len run k r = ltb (z .n) r ∷ leb (r + k) (roomOf z len + 1) ∷ eqb (sharer run (runFrom r k) (z .u)) 0 ∷ []
+
+unfoldable pub freeAt : Sizes → ℕ → (ℕ → Run) → ℕ → ℕ → Bool
+freeAt z len run k r = all (freeTests z len run k r)
+
+-- "the lowest record r >= N+1", or 0
+unfoldable pub freePlace : Sizes → ℕ → (ℕ → Run) → ℕ → ℕ
+freePlace z len run k = least (freeAt z len run k) (roomOf z len)
+
+-- "keep a scan in the lowest empty slot", or 0
+unfoldable pub emptySlot : Sizes → (ℕ → Run) → ℕ
+emptySlot z run = least (λ s. empty (run s)) (capacityOf z)
+
+-- "a job of zeros"
+abbrev pub noJob : Job
+noJob = record { saves = false; slot = 0; size = 0; span = 0; first = 0; written = 0; boot = replicate 32 0; about = replicate 54 0 }
+
+abbrev pub refused : Refusal → Begun
+refused r = record { answer = Refused r; job = noJob }
+
+abbrev pub accepted : Job → Begun
+accepted j = record { answer = Accepted; job = j }
+
+-- the place for a scan of `size` bytes in a file
+abbrev pub placeFor : List ℕ → ℕ → ℕ
+placeFor f size = freePlace (sizesOf f) (length f) (runOf f (sizesOf f)) (recordsFor (sizesOf f) size)
+
+abbrev pub saveJob : List ℕ → ℕ → List ℕ → List ℕ → Job
+saveJob f slot scan about =
+    record {
+      saves = true;
+      slot = slot;
+      size = length scan;
+      span = length f;
+      first = placeFor f (length scan);
+      written = 0;
+      boot = take 32 f;
+      about = about;
+    }
+
+-- "is lent an empty scan"
+abbrev pub clearJob : List ℕ → ℕ → Job
+clearJob f slot =
+    record { saves = false; slot = slot; size = 0; span = length f; first = 0; written = 0; boot = take 32 f; about = replicate 54 0 }
+
+-- the number of the rule that a scan to be saved breaks, or 0
+abbrev pub reasonOf : Ruled → ℕ
+reasonOf (Keeps head rest) = 0
+reasonOf (Breaks reason) = reason
+
+-- 11, then 13
+abbrev pub scanChecks : List ℕ → List ℕ → List (Check Refusal)
+scanChecks f scan =
+    check (ltb 0 (reasonOf (ruledOf scan true))) (BadScan (reasonOf (ruledOf scan true)))
+    ∷ check (eqb (placeFor f (length scan)) 0) NoRoom
+    ∷ []
+
+-- "1 to 8 as numbered, then 9 or 12, 10, 11, 13"
+unfoldable pub saveOf : List ℕ → ℕ → List ℕ → List ℕ → Begun
+saveOf f slot scan about =
+    judge refused (openChecks f ++ (noSlot (sizesOf f) slot ∷ scanChecks f scan)) (accepted (saveJob f slot scan about))
+
+abbrev pub keepSlot : List ℕ → ℕ
+keepSlot f = emptySlot (sizesOf f) (runOf f (sizesOf f))
+
+unfoldable pub keepOf : List ℕ → List ℕ → List ℕ → Begun
+keepOf f scan about =
+    judge refused (openChecks f ++ (check (eqb (keepSlot f) 0) NoEmptySlot ∷ scanChecks f scan)) (accepted (saveJob f (keepSlot f) scan about))
+
+unfoldable pub clearOf : List ℕ → ℕ → Begun
+clearOf f slot = judge refused (slotChecks f slot) (accepted (clearJob f slot))
+
+-- ---- the writes of a job
+
+-- some bytes, where in the file they go, and the record that is written
+pub record Write : Type 0 where
+  pub at : ℕ
+  pub bytes : List ℕ
+  pub record-no : ℕ
+
+abbrev pub perform : List ℕ → Write → List ℕ
+perform f w = write f (w .at) (w .bytes)
+
+-- how many data records: k for a save, none for a clear
+abbrev pub countOf : Sizes → Job → ℕ
+countOf z j = cond (j .saves) (recordsFor z (j .size)) 0
+
+-- the bytes of the data records: "the last padded with zeros"
+abbrev pub paddedOf : Sizes → Job → List ℕ → List ℕ
+paddedOf z j scan = pad (countOf z j * z .l) (cond (j .saves) scan [])
+
+-- k records from r on
+unfoldable pub dataFrom : Sizes → ℕ → ℕ → List ℕ → List Write
+dataFrom z r zero bytes = []
+dataFrom z r (suc k) bytes =
+    record { at = startOf z r; bytes = take (z .l) bytes; record-no = r } ∷ dataFrom z (r + 1) k (drop (z .l) bytes)
+
+abbrev pub dataWrites : Sizes → Job → List ℕ → List Write
+dataWrites z j scan = dataFrom z (j .first) (countOf z j) (paddedOf z j scan)
+
+-- "record 1 with D = max(D, r+k-1-N), U = max(U, slot) and the counter one higher"; a clear changes the "counter only"
+abbrev pub dataAfter : Sizes → Job → ℕ
+dataAfter z j = cond (j .saves) (max (z .d) (j .first + countOf z j - 1 - z .n)) (z .d)
+
+abbrev pub usedAfter : Sizes → Job → ℕ
+usedAfter z j = cond (j .saves) (max (z .u) (j .slot)) (z .u)
+
+-- "32 plain bits; after all ones comes zero"
+abbrev pub counterAfter : Sizes → ℕ
+counterAfter z = (z .counter + 1) % 4294967296
+
+abbrev pub sizesAfter : Sizes → Job → Sizes
+sizesAfter z j = renewed z (dataAfter z j) (usedAfter z j) (counterAfter z)
+
+abbrev pub bootWrite : Sizes → Job → Write
+bootWrite z j = record { at = 0; bytes = bootBytes (sizesAfter z j); record-no = 1 }
+
+-- "then the slot's entry in its index record"; of a clear "M zeros as the entry"
+abbrev pub entryAfter : Sizes → Job → List ℕ
+entryAfter z j = cond (j .saves) (entryBytes z (runFrom (j .first) (countOf z j)) (j .about)) (zeros (z .m))
+
+abbrev pub entryWrite : Sizes → Job → Write
+entryWrite z j = record { at = homeOf z (j .slot); bytes = entryAfter z j; record-no = recordOf z (j .slot) }
+
+-- "the k data records .., then record 1 .., then the slot's entry"
+unfoldable pub writesOf : Sizes → Job → List ℕ → List Write
+writesOf z j scan = dataWrites z j scan ++ (bootWrite z j ∷ entryWrite z j ∷ [])

@@ -1,0 +1,44 @@
+-- The paper's run, by computation.
+use mathlib.Core.Path.{refl}
+use lib.Ieee.{ofBits}
+use Rattle.lent.specs.Number.{number, value, digit, bytes, words, int16}
+use Rattle.lent.specs.Lists.{table, every, those}
+use Rattle.lent.specs.Least.{least}
+use Rattle.lent.specs.Write.{write, zeros, pad}
+use Rattle.lent.specs.Same.{same}
+use Rattle.whole.specs.Number.{exactly, wholeFloat, wholeOf}
+use Rattle.whole.specs.Length.{lengthOf, isWhole, sizeOf}
+use Rattle.paper.specs.Sizes.{bootBytes, shaped, inRange}
+use Rattle.paper.specs.Index.{empty, inData, badAt, aboveAt, shares, sharer, sharedAt, openOf, slotsOf}
+use Rattle.paper.specs.Entry.{entryBytes}
+use Rattle.paper.specs.Scan.{classesOf, startsOf, rule1, rule2, rule3, rule4, rule5, rule6, rising, ruledOf}
+use Rattle.paper.specs.Look.{readOf}
+use Rattle.paper.specs.Store.{blankFile, blankOf, freeAt, freePlace, saveOf, dataFrom, writesOf}
+use Rattle.paper.specs.Step.{agrees, stepFile, stepJob, stands, stepAnswer}
+use Rattle.paper.specs.Lister.{digits, linesText, listText}
+use Rattle.paper_run.specs.Scans.{preamble, double, scanOf}
+use Rattle.paper_run.specs.Files.{file0, file1, file2, file3, file4, broken}
+use Rattle.paper_run.specs.Run.{Run, Kept}
+
+pub kept : Kept
+unfolding number value int16 table every exactly wholeFloat wholeOf ofBits lengthOf isWhole sizeOf classesOf startsOf rule1 rule2 rule3 rule4 rule5 rule6 rising ruledOf preamble double scanOf
+kept = record { first = refl; second = refl; third = refl; fourth = refl; fifth = refl }
+
+pub run : Run
+unfolding number value digit bytes words int16 table every those least write zeros pad same exactly wholeFloat wholeOf ofBits lengthOf isWhole sizeOf bootBytes shaped inRange empty inData badAt aboveAt shares sharer sharedAt openOf slotsOf entryBytes classesOf startsOf rule1 rule2 rule3 rule4 rule5 rule6 rising ruledOf readOf blankFile blankOf freeAt freePlace saveOf dataFrom writesOf agrees stepFile stepJob stands stepAnswer digits linesText listText preamble double scanOf file0 file1 file2 file3 file4 broken
+run =
+    record {
+      blanked = refl;
+      capacity = refl;
+      room = refl;
+      first-save = refl;
+      second-save = refl;
+      third-save = refl;
+      text = refl;
+      text-slot = refl;
+      text-short = refl;
+      read-1 = refl;
+      read-9 = refl;
+      fourth-save = refl;
+      no-room = refl;
+    }

@@ -1,0 +1,63 @@
+-- 01, "Numbers to hold us to": what the paper says of its run, line by line.
+use Prim.Native.Nat.{ℕ}
+use mathlib.Core.Path.{_≡_}
+use mathlib.Core.Bool.{true}
+use mathlib.Core.List.{List, [], _∷_}
+use lib.ListN.{length}
+use Rattle.paper.specs.declared.answer.Ruled.the-variants.{Keeps}
+use Rattle.paper.specs.declared.answer.Taken.the-variants.{Accepted}
+use Rattle.paper.specs.declared.job.Step.the-variants.{Wrote, Saved}
+use Rattle.paper.specs.Refusals.{takenSays}
+use Rattle.paper.specs.Sizes.{sizesOf, capacityOf, roomOf}
+use Rattle.paper.specs.Scan.{ruledOf, partOf}
+use Rattle.paper.specs.Look.{readOf}
+use Rattle.paper.specs.Store.{blankOf, saveOf}
+use Rattle.paper.specs.Lister.{listText}
+use Rattle.paper_run.specs.Scans.{scan1, scan2, scan3, scan4, scan5}
+use Rattle.paper_run.specs.Files.{saving, about, lent, file0, file1, file2, file3, file4, broken}
+
+-- "slots 16 used 9 scans 2", "1 7 8" and "9 6 6", each with its newline
+abbrev pub threeLines : List ℕ
+threeLines =
+    115 ∷ 108 ∷ 111 ∷ 116 ∷ 115 ∷ 32 ∷ 49 ∷ 54 ∷ 32 ∷ 117 ∷ 115 ∷ 101 ∷ 100 ∷ 32 ∷ 57 ∷ 32 ∷ 115 ∷ 99 ∷ 97 ∷ 110 ∷ 115 ∷ 32 ∷ 50 ∷ 10
+    ∷ 49 ∷ 32 ∷ 55 ∷ 32 ∷ 56 ∷ 10
+    ∷ 57 ∷ 32 ∷ 54 ∷ 32 ∷ 54 ∷ 10 ∷ []
+
+-- "refused 6 slot 3", and "refused 1 slot 0" for an empty file
+abbrev pub refusedSlot : List ℕ
+refusedSlot = 114 ∷ 101 ∷ 102 ∷ 117 ∷ 115 ∷ 101 ∷ 100 ∷ 32 ∷ 54 ∷ 32 ∷ 115 ∷ 108 ∷ 111 ∷ 116 ∷ 32 ∷ 51 ∷ 10 ∷ []
+
+abbrev pub refusedShort : List ℕ
+refusedShort = 114 ∷ 101 ∷ 102 ∷ 117 ∷ 115 ∷ 101 ∷ 100 ∷ 32 ∷ 49 ∷ 32 ∷ 115 ∷ 108 ∷ 111 ∷ 116 ∷ 32 ∷ 48 ∷ 10 ∷ []
+
+pub record Run : Type 0 where
+  -- "blank 4,096 bytes .. (capacity 16, room 8)"
+  pub blanked : blankOf lent 3 512 64 ≡ Accepted
+  pub capacity : capacityOf (sizesOf file0) ≡ 16
+  pub room : roomOf (sizesOf file0) (length file0) ≡ 8
+  -- "records written 4, 5, 1, 2, Saved at step 5"
+  pub first-save : saving 5 file0 1 scan1 ≡ Wrote 4 1 ∷ Wrote 5 2 ∷ Wrote 1 3 ∷ Wrote 2 4 ∷ Saved 0 4 ∷ []
+  -- "records 6, 1, 3"
+  pub second-save : saving 4 file1 9 scan2 ≡ Wrote 6 1 ∷ Wrote 1 2 ∷ Wrote 3 3 ∷ Saved 0 3 ∷ []
+  -- "7, 8, 1, 2"
+  pub third-save : saving 5 file2 1 scan3 ≡ Wrote 7 1 ∷ Wrote 8 2 ∷ Wrote 1 3 ∷ Wrote 2 4 ∷ Saved 0 4 ∷ []
+  -- "The lister then prints exactly"
+  pub text : listText file3 ≡ threeLines
+  -- "A file refused prints one line"
+  pub text-slot : listText broken ≡ refusedSlot
+  pub text-short : listText [] ≡ refusedShort
+  -- "A read answers the first HEADLEN + DATALEN bytes of the entry's records"
+  pub read-1 : partOf file3 (readOf file3 1) ≡ scan3
+  pub read-9 : partOf file3 (readOf file3 9) ≡ scan2
+  -- "Next, 1,024 bytes to slot 2 take 4 and 5"
+  pub fourth-save : saving 5 file3 2 scan4 ≡ Wrote 4 1 ∷ Wrote 5 2 ∷ Wrote 1 3 ∷ Wrote 2 4 ∷ Saved 0 4 ∷ []
+  -- "then 512 bytes to slot 3 get 13"
+  pub no-room : takenSays (saveOf file4 3 scan5 about .answer) .number ≡ 13
+
+-- the scans keep the rules
+pub record Kept : Type 0 where
+  pub first : ruledOf scan1 true ≡ Keeps 256 744
+  pub second : ruledOf scan2 true ≡ Keeps 256 256
+  pub third : ruledOf scan3 true ≡ Keeps 256 744
+  pub fourth : ruledOf scan4 true ≡ Keeps 256 768
+  pub fifth : ruledOf scan5 true ≡ Keeps 256 256
