@@ -1,6 +1,6 @@
 -- The bootstrap law: record 1 written anew, with any D, U and counter that leave every listed scan in. The file opens with them, and shows the same.
 use Prim.Native.Nat.{ℕ, _+_, _-_, _*_, _/_, _≤_, _<_}
-use mathlib.Core.Path.{_≡_, refl, sym, _∙_, ap}
+use mathlib.Core.Path.{_≡_, refl, sym, _∙_, ap, subst}
 use mathlib.Core.List.{List}
 use native.Mathlib.Omega.{arith}
 use lib.ListN.{length, take}
@@ -34,6 +34,16 @@ covers-more S hd hu r c =
       over = λ s a b. S .laid .above s (omega arith) b;
       room = r;
       slots = c;
+    }
+
+-- it is a matter of the runs and of the length
+pub covers-kept : {z : Sizes} {f g : List ℕ} {d u : ℕ} → Kept z f g → length g ≡ length f → Covers z (runOf f z) (length f) d u → Covers z (runOf g z) (length g) d u
+covers-kept {z} {f} {g} {d} {u} k e C =
+    record {
+      ends = λ s a b. subst (λ (r : Run). r .last ≤ z .n + d) (sym (k .runs s a b)) (C .ends s a b);
+      over = λ s a b. subst (λ (r : Run). r .first + r .last ≡ 0) (sym (k .runs s (omega arith) b)) (C .over s a b);
+      room = rw e (C .room);
+      slots = C .slots;
     }
 
 -- the new sizes over the old entries

@@ -12,3 +12,10 @@ pub mod Frame
 pub mod Free
 pub mod Bootstrap
 pub mod IndexLaw
+pub mod Ready
+pub mod Stages
+pub mod Begins
+pub mod Records
+pub mod Confirming
+pub mod Reading
+pub mod Blank

@@ -46,8 +46,10 @@ data-at z (suc k) r bs (suc i) d h =
 
 -- ---- the whole list, by place
 
-abbrev endOf : Sizes → Job → List Write
-endOf z j = bootWrite z j ∷ entryWrite z j ∷ []
+-- a list with two more at its end
+end-at : (ds : List Write) (a b : Write) (k i : ℕ) → length ds ≡ k → getD (ds ++ (a ∷ b ∷ [])) (k + i) noWrite ≡ getD (a ∷ b ∷ []) i noWrite
+end-at ds a b k i e =
+    subst (λ (n : ℕ). getD (ds ++ (a ∷ b ∷ [])) (n + i) noWrite ≡ getD (a ∷ b ∷ []) i noWrite) e (getD-append-add ds (a ∷ b ∷ []) i noWrite)
 
 module _ (z : Sizes) (j : Job) (scan : List ℕ) where
   pub length-rows : length (dataWrites z j scan) ≡ countOf z j
@@ -56,28 +58,24 @@ module _ (z : Sizes) (j : Job) (scan : List ℕ) where
   -- k data records, record 1 and the entry
   pub length-writes : length (writesOf z j scan) ≡ countOf z j + 2
   unfolding writesOf
-  length-writes = length-append (dataWrites z j scan) (endOf z j) ∙ ap (λ (n : ℕ). n + 2) length-rows
+  length-writes = length-append (dataWrites z j scan) _ ∙ ap (λ (n : ℕ). n + 2) length-rows
 
   pub writes-data : (i : ℕ) → i < countOf z j → getD (writesOf z j scan) i noWrite ≡ getD (dataWrites z j scan) i noWrite
   unfolding writesOf
-  writes-data i h = List·getD-append (dataWrites z j scan) (endOf z j) noWrite i (omega (arith, length-rows))
+  writes-data i h = List·getD-append (dataWrites z j scan) _ noWrite i (omega (arith, length-rows))
 
   pub writes-row : (i : ℕ) → i < countOf z j
       → getD (writesOf z j scan) i noWrite
       ≡ record { at = startOf z (j .first + i); bytes = take (z .l) (drop (i * z .l) (paddedOf z j scan)); record-no = j .first + i }
   writes-row i h = writes-data i h ∙ data-at z (countOf z j) (j .first) (paddedOf z j scan) i noWrite h
 
-  writes-end : (i : ℕ) → getD (writesOf z j scan) (countOf z j + i) noWrite ≡ getD (endOf z j) i noWrite
-  unfolding writesOf
-  writes-end i =
-      subst (λ (n : ℕ). getD (dataWrites z j scan ++ endOf z j) (n + i) noWrite ≡ getD (endOf z j) i noWrite) length-rows
-      (getD-append-add (dataWrites z j scan) (endOf z j) i noWrite)
-
   pub writes-boot : (i : ℕ) → i ≡ countOf z j → getD (writesOf z j scan) i noWrite ≡ bootWrite z j
-  writes-boot i e = let k : i ≡ countOf z j + 0 = omega arith in rw k (writes-end 0)
+  unfolding writesOf
+  writes-boot i e = let k : i ≡ countOf z j + 0 = omega arith in rw k (end-at (dataWrites z j scan) _ _ (countOf z j) 0 length-rows)
 
   pub writes-entry : (i : ℕ) → i ≡ countOf z j + 1 → getD (writesOf z j scan) i noWrite ≡ entryWrite z j
-  writes-entry i e = rw e (writes-end 1)
+  unfolding writesOf
+  writes-entry i e = rw e (end-at (dataWrites z j scan) _ _ (countOf z j) 1 length-rows)
 
   pub writes-past : (i : ℕ) → countOf z j + 2 ≤ i → getD (writesOf z j scan) i noWrite ≡ noWrite
   writes-past i h = List·getD-eq-default (writesOf z j scan) noWrite (omega (arith, length-writes))

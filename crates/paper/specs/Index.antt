@@ -43,7 +43,7 @@ badAt z run s = all (not (empty (run s)) ∷ not (inData z (run s)) ∷ [])
 unfoldable pub aboveAt : Sizes → (ℕ → Run) → ℕ → Bool
 aboveAt z run s = all (ltb (z .u) s ∷ not (empty (run s)) ∷ [])
 
--- "No two scans share a record": a record, counted from 1, that is in both
+-- "No two scans share a record": of two runs that are empty or in range, a record, counted from 1, is in both
 abbrev pub shareTests : Run → Run → List Bool
 shareTests r t = leb 1 (r .last) ∷ leb 1 (t .last) ∷ leb (r .first) (t .last) ∷ leb (t .first) (r .last) ∷ []
 

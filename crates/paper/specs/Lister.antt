@@ -2,7 +2,7 @@
 use Prim.Native.Nat.{ℕ, zero, suc, _+_, _/_, _%_}
 use mathlib.Core.Bool.{Bool, cond}
 use mathlib.Core.List.{List, [], _∷_, _++_}
-use lib.Dec.{ltb}
+use lib.Dec.{ltb, leb}
 use lib.ListN.{length}
 use Rattle.paper.specs.declared.sizes.Sizes.{Sizes}
 use Rattle.paper.specs.declared.sizes.Run.{Run}
@@ -51,6 +51,14 @@ textOf f (Opens z) =
     ++ (decimal (length (slotsOf z (runOf f z))) ++ (10 ∷ linesText (runOf f z) (slotsOf z (runOf f z))))))))
 textOf f (Refused r) = refusedWord ++ (decimal (numberOf r) ++ (slotWord ++ (decimal (valueOf r) ++ (10 ∷ []))))
 
--- what the lister prints for a file of at most 65,536 bytes
+-- the list of a file, or its refusal
 unfoldable pub listText : List ℕ → List ℕ
 listText f = textOf f (openOf f)
+
+-- "for a longer input it prints `too long`"
+abbrev pub tooLong : List ℕ
+tooLong = 116 ∷ 111 ∷ 111 ∷ 32 ∷ 108 ∷ 111 ∷ 110 ∷ 103 ∷ 10 ∷ []
+
+-- what the lister prints: it "reads one file of at most 65,536 bytes"
+unfoldable pub printed : List ℕ → List ℕ
+printed f = cond (leb (length f) 65536) (listText f) tooLong

@@ -124,7 +124,7 @@ abbrev pub partOf : List ℕ → Span → List ℕ
 partOf s (Part from to) = part from to s
 partOf s (Refused r) = []
 
--- what `ruledOf s saving ≡ Keeps head rest` says of the lengths, besides the rules 1 to 3
+-- what users of `ruledOf s saving ≡ Keeps head rest` need of the lengths
 pub record Lengths (s : List ℕ) (saving : Bool) (head rest : ℕ) : Type 0 where
   pub head-is : headlen s ≡ head
   pub rest-is : datalen s ≡ rest

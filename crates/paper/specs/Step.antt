@@ -60,7 +60,7 @@ hasLeft z scan j = ltb (j .written) (length (writesOf z j scan))
 unfoldable pub stepFile : List ℕ → List ℕ → Job → List ℕ
 stepFile f scan j = cond (agrees f scan j) (perform f (writeAt (sizesOf f) scan j)) f
 
--- the job one write on; it then expects the bootstrap that it wrote
+-- the job one write on; where this write was record 1's, it then expects the bootstrap that it wrote
 abbrev pub moved : Sizes → List ℕ → Job → Job
 moved z scan j =
     record {

@@ -20,7 +20,7 @@ pub enum Span {
     Refused(Refusal),
 }
 
-// A scan that keeps the rules: HEADLEN and DATALEN; or the number of the first rule broken.
+// What the rules say of a scan, for the calls above: HEADLEN and DATALEN, or the number of the first rule broken.
 pub enum Ruled {
     Keeps(usize, usize),
     Breaks(usize),

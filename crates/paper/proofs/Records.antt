@@ -1,0 +1,72 @@
+-- "Each step writes at most one record": the bytes of every write lie in the record that the write names.
+use Prim.Native.Nat.{ℕ, _+_, _-_, _*_, _/_, _%_, _≤_, _<_}
+use mathlib.Core.Path.{_≡_, refl, sym, _∙_, ap, subst}
+use mathlib.Core.Bool.{Bool, true, false, cond}
+use mathlib.Core.List.{List}
+use mathlib.Core.Logic.{_⊎_, ⊎-elim}
+use native.Mathlib.Omega.{arith}
+use native.Mathlib.Nat.{mod-lt, mul-mod-left, dvd-of-mod-eq-zero, mod-mod-of-dvd, div-add-mod', lt-of-mul-lt-mul-right, add-mul, one-mul}
+use lib.ListN.{length, take, drop, getD, length-take}
+use Rattle.lent.specs.Write.{zeros}
+use Rattle.lent.proofs.Lists.{lt-or-ge}
+use Rattle.lent.proofs.Writes.{length-zeros}
+use Rattle.paper.specs.declared.sizes.Sizes.{Sizes}
+use Rattle.paper.specs.declared.job.Job.{Job}
+use Rattle.paper.specs.Sizes.{capacityOf, recordOf, placeOf, startOf, homeOf, Shaped}
+use Rattle.paper.specs.Store.{Write, runFrom, countOf, paddedOf, bootWrite, entryAfter, entryWrite, writesOf, sizesAfter}
+use Rattle.paper.specs.Step.{noWrite}
+use Rattle.paper.proofs.Sizing.{times, home-is}
+use Rattle.paper.proofs.Encoding.{length-boot, length-entry}
+use Rattle.paper.proofs.Writes.{length-writes, writes-row, writes-boot, writes-entry}
+
+-- the bytes of w lie in its record
+pub record InRecord (z : Sizes) (w : Write) : Type 0 where
+  pub from : startOf z (w .record-no) ≤ w .at
+  pub to : w .at + length (w .bytes) ≤ startOf z (w .record-no) + z .l
+
+-- a multiple of m below another has room for m
+multiple-next : (p l m : ℕ) → 1 ≤ m → p % m ≡ 0 → l % m ≡ 0 → p < l → p + m ≤ l
+multiple-next p l m h a b less =
+    let c : p / m * m + p % m ≡ p = div-add-mod' p m in
+    let d : l / m * m + l % m ≡ l = div-add-mod' l m in
+    let e : p / m < l / m = lt-of-mul-lt-mul-right m (omega arith) in
+    let k : (p / m + 1) * m ≤ l / m * m = times (p / m + 1) (l / m) m (omega arith) in
+    let q : (p / m + 1) * m ≡ p / m * m + m = add-mul (p / m) 1 m ∙ ap (λ (x : ℕ). p / m * m + x) (one-mul m) in
+    omega arith
+
+either-length : (m : ℕ) (t : Bool) (x y : List ℕ) → length x ≡ m → length y ≡ m → length (cond t x y) ≡ m
+either-length m true x y p q = p
+either-length m false x y p q = q
+
+module _ (z : Sizes) (R : Shaped z) where
+  -- an entry does not run over the end of its record, since M divides L
+  pub place-fits : (s : ℕ) → placeOf z s + z .m ≤ z .l
+  place-fits s =
+      let d = dvd-of-mod-eq-zero (z .m) (R .divides) in
+      multiple-next (placeOf z s) (z .l) (z .m) (omega arith) (mod-mod-of-dvd (z .m) ((s - 1) * z .m) d ∙ mul-mod-left (s - 1) (z .m)) (R .divides)
+      (mod-lt ((s - 1) * z .m) (omega arith))
+
+  entry-length : (j : Job) → length (j .about) ≡ 54 → length (entryAfter z j) ≡ z .m
+  entry-length j h =
+      either-length (z .m) (j .saves) _ (zeros (z .m)) (length-entry z (runFrom (j .first) (countOf z j)) (j .about) h (omega arith)) (length-zeros (z .m))
+
+  entry-in : (j : Job) → length (j .about) ≡ 54 → InRecord z (entryWrite z j)
+  entry-in j h =
+      record {
+        from = omega (arith, home-is z (j .slot));
+        to = omega (arith, home-is z (j .slot), place-fits (j .slot), entry-length j h);
+      }
+
+  -- each write of a job's list, whatever the job's numbers
+  pub writes-in-record : (j : Job) (scan : List ℕ) → length (j .about) ≡ 54 → (i : ℕ) → i < length (writesOf z j scan)
+      → InRecord z (getD (writesOf z j scan) i noWrite)
+  writes-in-record j scan h i less =
+      ⊎-elim
+      (λ (a : i < countOf z j). subst (InRecord z) (sym (writes-row z j scan i a)) (record { from = omega arith; to = omega (arith, length-take (z .l) (drop (i * z .l) (paddedOf z j scan))) }))
+      (λ (a : countOf z j ≤ i).
+      ⊎-elim
+      (λ (b : i < countOf z j + 1).
+      subst (InRecord z) (sym (writes-boot z j scan i (omega arith))) (record { from = omega arith; to = omega (arith, length-boot (sizesAfter z j)) }))
+      (λ (b : countOf z j + 1 ≤ i). subst (InRecord z) (sym (writes-entry z j scan i (omega (arith, length-writes z j scan)))) (entry-in j h))
+      (lt-or-ge i (countOf z j + 1)))
+      (lt-or-ge i (countOf z j))

@@ -1,0 +1,21 @@
+use Rattle.room.proofs.Freeing.{jump, touch-here}
+use Rattle.index.specs.Row.{rowRun}
+use native.Mathlib.Omega.{arith}
+use borrow.Author.Needs.{needs}
+use Rattle.room.proofs.step.Statement.{statement}
+use Rattle.room.proofs.step.Tie as tie
+
+returns-2 : tie.Need-returns-2
+returns-2 c = let s = c .before .before .before .before .before .before .before in let e = c .before .before .run-in .ensures in jump (rowRun _) _ _ _ (s .pre .0 .some) (s .pre .1) (s .pre .0 .ranged) (s .pre .0 .laid) _ (touch-here (rowRun _) _ _ _ _ _ _ (omega arith) (omega arith) (c .before .before .before .span .ensures) e (c .before .shares .ensures) (c .if2 .taken)) _ e .passed
+
+pub step-spec : {M : Type 1} → statement M
+step-spec =
+    tie.close
+    (tie.spec
+    (λ c. search needs)
+    (λ c κs. search needs)
+    (λ c. search needs)
+    (λ c κs. search needs)
+    (λ c κs. search needs)
+    returns-2
+    (λ c. search needs))
