@@ -1,0 +1,37 @@
+//! A slot that holds a scan: what entry, show and read ask first.
+ghost use mathlib.Core.Path.{_≡_};
+ghost use Rattle.look.specs.Slot.{heldOf};
+use paper::answer::Opened;
+use paper::refusal::Refusal;
+use paper::sizes::Run;
+use paper::sizes::Sizes;
+
+// The sizes of the file and the run of the slot; or one of the refusals 1 to 10.
+pub enum Held {
+    Scan(Sizes, Run),
+    Refused(Refusal),
+}
+
+// The judgement leaves the runs in the row, so that no entry is decoded twice.
+pub fn find(file: &[u8], slot: usize) -> Held
+    ensures { λ r. ⌜ r ≡ heldOf (now (file .entry)) slot ⌝ }
+{
+    let mut row = [0u32; 8192];
+    let j = index::judged(file, &mut row);
+    match j {
+        Opened::Refused(r) => Held::Refused(r),
+        Opened::Opens(z) => {
+            if slot == 0 {
+                return Held::Refused(Refusal::NoSuchSlot);
+            }
+            if z.capacity() < slot {
+                return Held::Refused(Refusal::NoSuchSlot);
+            }
+            let a = index::row::run_in(&row, slot);
+            if index::entry::empty(a) {
+                return Held::Refused(Refusal::EmptySlot);
+            }
+            Held::Scan(z, a)
+        }
+    }
+}

@@ -1,0 +1,56 @@
+//! Where a slot's records and its scan lie in the file.
+ghost use mathlib.Core.Path.{_≡_};
+ghost use Prim.Native.Nat.{_≤_};
+ghost use Rattle.lent.specs.Part.{part};
+ghost use mathlib.Core.Bool.{false};
+ghost use Rattle.paper.specs.Scan.{ruledOf};
+ghost use Rattle.paper.specs.Look.{recordsSpan, readIn, showOf, readOf};
+ghost use Rattle.look.specs.Slot.{Within};
+use super::slot::Held;
+use paper::answer::Ruled;
+use paper::answer::Span;
+use paper::refusal::Refusal;
+use paper::sizes::Run;
+use paper::sizes::Sizes;
+
+// The bytes of the records of a run.
+fn records(z: Sizes, a: Run) -> Span
+    requires { ⌜ Within z a ⌝ }
+    ensures { λ r. ⌜ r ≡ recordsSpan z a ⌝ }
+{
+    Span::Part((a.first - 1) * z.l, a.last * z.l)
+}
+
+// The span of a slot's records.
+pub fn shown(file: &[u8], slot: usize) -> Span
+    ensures { λ r. ⌜ r ≡ showOf (now (file .entry)) slot ⌝ }
+{
+    let h = super::slot::find(file, slot);
+    match h {
+        Held::Scan(z, a) => records(z, a),
+        Held::Refused(r) => Span::Refused(r),
+    }
+}
+
+// The span of the scan in the records from `from` up to `to`.
+fn scan_in(file: &[u8], from: usize, to: usize) -> Span
+    requires { ⌜ from ≤ 4096000000 ⌝ }
+    ensures { λ r. ⌜ r ≡ readIn from (ruledOf (part from to (now (file .entry))) false) ⌝ }
+{
+    let ruled = scan::rules::judge(lent::part::part(file, from, to), false);
+    match ruled {
+        Ruled::Keeps(head, rest) => Span::Part(from, from + (head + rest)),
+        Ruled::Breaks(reason) => Span::Refused(Refusal::BadScan(reason)),
+    }
+}
+
+// The span of a slot's scan.
+pub fn scanned(file: &[u8], slot: usize) -> Span
+    ensures { λ r. ⌜ r ≡ readOf (now (file .entry)) slot ⌝ }
+{
+    let s = shown(file, slot);
+    match s {
+        Span::Part(from, to) => scan_in(file, from, to),
+        Span::Refused(r) => Span::Refused(r),
+    }
+}

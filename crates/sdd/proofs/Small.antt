@@ -1,0 +1,212 @@
+-- Refusal numbers end at 17, slots at 4,096 and reasons at 6: what a refusal says fits the face.
+use Prim.Native.Nat.{ℕ, _+_, _-_, _*_, _≤_}
+use mathlib.Core.Path.{_≡_, refl, sym, _∙_, subst}
+use mathlib.Core.Bool.{Bool, true, false, not, cond}
+use mathlib.Core.List.{List, [], _∷_, _++_}
+use native.Mathlib.Omega.{arith}
+use lib.Dec.{ltb, leb, eqb}
+use lib.ListN.{length}
+use lib.IntN.{ℤ}
+use Rattle.lent.specs.Lists.{all}
+use Rattle.lent.specs.Least.{least}
+use Rattle.lent.specs.Checks.{Check, check, Fired, clear, fires, fired, answer, judge}
+use Rattle.lent.proofs.Leasts.{View, nothing, lowest, view}
+use Rattle.lent.proofs.Checks.{clear≢fires, fires-same, clear-append, fires-append}
+use Rattle.paper.specs.declared.sizes.Sizes.{Sizes}
+use Rattle.paper.specs.declared.sizes.Run.{Run}
+use Rattle.paper.specs.declared.refusal.Refusal.{Refusal}
+use Rattle.paper.specs.declared.refusal.Refusal.the-variants.{TooShort, OldForm, UnknownForm, OutOfRange, PastEnd, BadEntry, AboveUse, SharedRecord, NoSuchSlot, EmptySlot, BadScan, NoEmptySlot, NoRoom, Disagrees, Differs, BadBlank, TooSmall}
+use Rattle.paper.specs.declared.answer.Opened.{Opened}
+use Rattle.paper.specs.declared.answer.Opened.the-variants as opened
+use Rattle.paper.specs.declared.answer.Listed.the-variants as listed
+use Rattle.paper.specs.declared.answer.Span.{Span}
+use Rattle.paper.specs.declared.answer.Span.the-variants as span
+use Rattle.paper.specs.declared.answer.Ruled.{Ruled}
+use Rattle.paper.specs.declared.answer.Ruled.the-variants.{Keeps, Breaks}
+use Rattle.paper.specs.declared.answer.Taken.the-variants as taken
+use Rattle.paper.specs.declared.entry.Found.{Found}
+use Rattle.paper.specs.declared.job.Job.{Job}
+use Rattle.paper.specs.declared.job.Begun.{Begun}
+use Rattle.paper.specs.declared.job.Step.{Step}
+use Rattle.paper.specs.declared.job.Step.the-variants as step
+use Rattle.paper.specs.Refusals.{numberOf, valueOf}
+use Rattle.paper.specs.Sizes.{sizesOf, startOf, capacityOf, bootChecks, Ranged}
+use Rattle.paper.specs.Index.{runOf, shownOf, badAt, aboveAt, sharedAt, indexChecks, openChecks, bootOf, indexOf, openOf}
+use Rattle.paper.specs.Scan.{ruledOf, classAt, classEnd, classIn, ofRuled, classOf, dataOf, startsOf, classesOf}
+use Rattle.paper.specs.Look.{listOf, listChecks, listedOf, slotChecks, noSlot, noScan, foundOf, showOf, readIn, readOf}
+use Rattle.paper.specs.Store.{blankChecks, blankSizes, blankOf, reasonOf, scanChecks, refused, accepted, saveOf, keepOf, keepSlot, clearOf}
+use Rattle.paper.specs.Step.{agrees, hasLeft, wroteOf, confirmed, confirmOf, stands, stepAnswer}
+use Rattle.paper.proofs.Opening.{boot-sound, open-index, open-refused, refused-fires, then-opens, then-refused}
+use Rattle.paper.proofs.Reasons.{reason-least}
+use Rattle.sdd.specs.Face.{TakenSmall, SpanSmall, ListedSmall, StepSmall}
+
+pub number-small : (r : Refusal) → numberOf r ≤ 17
+number-small TooShort = omega arith
+number-small OldForm = omega arith
+number-small UnknownForm = omega arith
+number-small OutOfRange = omega arith
+number-small PastEnd = omega arith
+number-small (BadEntry s) = omega arith
+number-small (AboveUse s) = omega arith
+number-small (SharedRecord s) = omega arith
+number-small NoSuchSlot = omega arith
+number-small EmptySlot = omega arith
+number-small (BadScan k) = omega arith
+number-small NoEmptySlot = omega arith
+number-small NoRoom = omega arith
+number-small Disagrees = omega arith
+number-small Differs = omega arith
+number-small BadBlank = omega arith
+number-small TooSmall = omega arith
+
+-- ---- checks whose refusals have small values
+
+abbrev AllSmall : List (Check Refusal) → Type 0
+AllSmall [] = Unit
+AllSmall (check t r ∷ cs) = (valueOf r ≤ 4096) × AllSmall cs
+
+small-fires : (cs : List (Check Refusal)) → AllSmall cs → (r : Refusal) → fired cs ≡ fires r → valueOf r ≤ 4096
+small-fires [] h r e = absurd (clear≢fires clear r refl e)
+small-fires (check true q ∷ cs) h r e = subst (λ (x : Refusal). valueOf x ≤ 4096) (fires-same (fires q) q r refl e) (h .0)
+small-fires (check false q ∷ cs) h r e = small-fires cs (h .1) r e
+
+least-le : (p : ℕ → Bool) (n : ℕ) → least p n ≤ n
+least-le p n = go (least p n) (view p n)
+  where
+    go : (k : ℕ) → View p n k → k ≤ n
+    go k (nothing v) = omega arith
+    go k (lowest v) = v .high
+
+index-small : (z : Sizes) → Ranged z → (run : ℕ → Run) → AllSmall (indexChecks z run)
+index-small z R run = (
+  omega (arith, least-le (badAt z run) (z .u)),
+  (omega (arith, least-le (aboveAt z run) (capacityOf z)), (omega (arith, least-le (sharedAt run) (z .u)), tt)),
+)
+
+-- ---- open's refusals, and those of the calls that begin with them
+
+boot-fires : (f : List ℕ) (r : Refusal) → bootOf f ≡ opened.Refused r → fired (bootChecks f) ≡ fires r
+unfolding bootOf
+boot-fires f r e = refused-fires (bootChecks f) (sizesOf f) r e
+
+index-fires : (z : Sizes) (run : ℕ → Run) (r : Refusal) → indexOf z run ≡ opened.Refused r → fired (indexChecks z run) ≡ fires r
+unfolding indexOf
+index-fires z run r e = refused-fires (indexChecks z run) z r e
+
+same-refusal : (f : List ℕ) (q r : Refusal) → openOf f ≡ opened.Refused q → openOf f ≡ opened.Refused r → q ≡ r
+same-refusal f q r p e = cc
+
+pub open-small : (f : List ℕ) (r : Refusal) → openOf f ≡ opened.Refused r → valueOf r ≤ 4096
+open-small f r e = go (bootOf f) refl
+  where
+    go : (v : Opened) → bootOf f ≡ v → valueOf r ≤ 4096
+    go (opened.Opens z) b =
+        small-fires (indexChecks z (runOf f z)) (index-small z (boot-sound b .ranged) (runOf f z)) r
+        (index-fires z (runOf f z) r (sym (open-index f b) ∙ e))
+    go (opened.Refused q) b =
+        subst (λ (x : Refusal). valueOf x ≤ 4096) (same-refusal f q r (open-refused f b) e)
+        (small-fires (bootChecks f) (omega arith, (omega arith, (omega arith, (omega arith, (omega arith, tt))))) q (boot-fires f q b))
+
+then-small : (f : List ℕ) (ds : List (Check Refusal)) → AllSmall ds → (r : Refusal) → fired (openChecks f ++ ds) ≡ fires r → valueOf r ≤ 4096
+then-small f ds h r e = go (openOf f) refl
+  where
+    go : (v : Opened) → openOf f ≡ v → valueOf r ≤ 4096
+    go (opened.Opens z) o = small-fires ds h r (sym (then-opens f ds o) ∙ e)
+    go (opened.Refused q) o =
+        subst (λ (x : Refusal). valueOf x ≤ 4096) (fires-same _ q r (then-refused f ds o) e) (open-small f q o)
+
+-- what holds of every refusal that fires, and of the answer where none does, holds of the judgement
+judged : {A : Type 0} (P : A → Type 0) (refuse : Refusal → A) (cs : List (Check Refusal)) (a : A) → ((r : Refusal) → fired cs ≡ fires r → P (refuse r))
+    → P a → P (judge refuse cs a)
+judged {A} P refuse cs a h k = go (fired cs) refl
+  where
+    go : (x : Fired Refusal) → fired cs ≡ x → P (answer refuse a x)
+    go clear e = k
+    go (fires r) e = h r e
+
+-- ---- each call
+
+abbrev slotTail : List ℕ → ℕ → List (Check Refusal)
+slotTail f s = noSlot (sizesOf f) s ∷ noScan (runOf f (sizesOf f) s) ∷ []
+
+abbrev listTail : List ℕ → List ℕ → List (Check Refusal)
+listTail f out = check (ltb (length out) (3 * length (listOf f))) TooSmall ∷ []
+
+reason-small : (s : List ℕ) (saving : Bool) → reasonOf (ruledOf s saving) ≤ 6
+reason-small s saving = subst (λ (n : ℕ). n ≤ 6) (sym (reason-least s saving)) (least-le _ 6)
+
+ruled-small : (k : ℕ → ℕ → Span) → ((a b : ℕ) → SpanSmall (k a b)) → (x : Ruled) → reasonOf x ≤ 6 → SpanSmall (ofRuled k x)
+ruled-small k h (Keeps a b) e = h a b
+ruled-small k h (Breaks n) e = omega arith
+
+pub list-small : (f out : List ℕ) → ListedSmall (listedOf f out)
+unfolding listedOf
+list-small f out = judged ListedSmall listed.Refused (listChecks f out) _ (then-small f (listTail f out) (omega arith, tt)) tt
+
+pub show-small : (f : List ℕ) (s : ℕ) → SpanSmall (showOf f s)
+unfolding showOf
+show-small f s = judged SpanSmall span.Refused (slotChecks f s) _ (then-small f (slotTail f s) (omega arith, (omega arith, tt))) tt
+
+read-in : (from : ℕ) (x : Ruled) → reasonOf x ≤ 6 → SpanSmall (readIn from x)
+read-in from (Keeps a b) e = tt
+read-in from (Breaks n) e = omega arith
+
+pub read-small : (f : List ℕ) (s : ℕ) → SpanSmall (readOf f s)
+unfolding readOf
+read-small f s =
+    judged SpanSmall span.Refused (slotChecks f s) _ (then-small f (slotTail f s) (omega arith, (omega arith, tt))) (read-in (startOf (sizesOf f) (runOf f (sizesOf f) s .first)) (ruledOf (shownOf f (sizesOf f) s) false) (reason-small (shownOf f (sizesOf f) s) false))
+
+in-small : (starts : List ℤ) (n head number : ℕ) → SpanSmall (classIn starts n head number)
+unfolding classIn
+in-small starts n head number = go (all (leb 1 number ∷ leb number n ∷ []))
+  where
+    go : (t : Bool) → SpanSmall (cond t (span.Part (classAt starts (number - 1)) (classEnd starts n head number)) (span.Part 0 0))
+    go true = tt
+    go false = tt
+
+pub class-small : (s : List ℕ) (number : ℕ) → SpanSmall (classOf s number)
+unfolding classOf
+class-small s number = ruled-small _ (λ a b. in-small (startsOf s) (classesOf s) a number) (ruledOf s false) (reason-small s false)
+
+pub data-small : (s : List ℕ) → SpanSmall (dataOf s)
+unfolding dataOf
+data-small s = ruled-small _ (λ a b. tt) (ruledOf s false) (reason-small s false)
+
+pub found-small : (f : List ℕ) (s : ℕ) → TakenSmall (foundOf f s .answer)
+unfolding foundOf
+found-small f s = judged (λ (x : Found). TakenSmall (x .answer)) _ (slotChecks f s) _ (then-small f (slotTail f s) (omega arith, (omega arith, tt))) tt
+
+pub blank-small : (f : List ℕ) (n l m : ℕ) → TakenSmall (blankOf f n l m)
+unfolding blankOf
+blank-small f n l m = judged TakenSmall taken.Refused (blankChecks f (blankSizes n l m)) taken.Accepted (small-fires (blankChecks f (blankSizes n l m)) (omega arith, tt)) tt
+
+scan-small : (f scan : List ℕ) → AllSmall (scanChecks f scan)
+scan-small f scan = (omega (arith, reason-small scan true), (omega arith, tt))
+
+pub save-small : (f : List ℕ) (slot : ℕ) (scan about : List ℕ) → TakenSmall (saveOf f slot scan about .answer)
+unfolding saveOf
+save-small f slot scan about = judged (λ (x : Begun). TakenSmall (x .answer)) refused (openChecks f ++ (noSlot (sizesOf f) slot ∷ scanChecks f scan)) _ (then-small f (noSlot (sizesOf f) slot ∷ scanChecks f scan) (omega arith, scan-small f scan)) tt
+
+pub keep-small : (f scan about : List ℕ) → TakenSmall (keepOf f scan about .answer)
+unfolding keepOf
+keep-small f scan about = judged (λ (x : Begun). TakenSmall (x .answer)) refused (openChecks f ++ (check (eqb (keepSlot f) 0) NoEmptySlot ∷ scanChecks f scan)) _ (then-small f (check (eqb (keepSlot f) 0) NoEmptySlot ∷ scanChecks f scan) (omega arith, scan-small f scan)) tt
+
+pub clear-small : (f : List ℕ) (slot : ℕ) → TakenSmall (clearOf f slot .answer)
+unfolding clearOf
+clear-small f slot = judged (λ (x : Begun). TakenSmall (x .answer)) refused (slotChecks f slot) _ (then-small f (slotTail f slot) (omega arith, (omega arith, tt))) tt
+
+either-way : (P : Step → Type 0) (t : Bool) (a b : Step) → P a → P b → P (cond t a b)
+either-way P true a b x y = x
+either-way P false a b x y = y
+
+confirm-small : (f scan : List ℕ) (j : Job) (v : Opened) → openOf f ≡ v → StepSmall (confirmOf f scan j v)
+confirm-small f scan j (opened.Opens z) e =
+    either-way StepSmall (stands f scan j z) (confirmed j) (step.Refused Differs) (either-way StepSmall (j .saves) _ _ tt tt) (omega arith)
+confirm-small f scan j (opened.Refused r) e = open-small f r e
+
+pub step-small : (f scan : List ℕ) (j : Job) → StepSmall (stepAnswer f scan j)
+unfolding stepAnswer
+step-small f scan j =
+    either-way StepSmall (agrees f scan j) _ (step.Refused Disagrees)
+    (either-way StepSmall (hasLeft (sizesOf f) scan j) (wroteOf (sizesOf f) scan j) (confirmOf f scan j (openOf f)) tt (confirm-small f scan j (openOf f) refl))
+    (omega arith)

@@ -1,0 +1,9 @@
+use borrow.Author.Needs.{needs}
+use Rattle.sdd.proofs.jobs.numbers.Statement.{statement}
+use Rattle.sdd.proofs.jobs.numbers.Tie as tie
+
+returns : tie.Need-returns
+returns c = rw (c .saves-number .ensures)
+
+pub numbers-spec : {M : Type 1} → statement M
+numbers-spec = tie.close (tie.spec (λ c κs. search needs) returns)

@@ -1,0 +1,162 @@
+-- The answers of the paper as the C face gives them: "`why` is {0, 0} where the call is accepted, .. every other field of a refused answer is 0".
+use Prim.Native.Nat.{ℕ, _≤_}
+use mathlib.Core.Bool.{Bool, true, false, cond}
+use mathlib.Core.List.{List}
+use lib.Dec.{ltb, eqb}
+use lib.ListN.{length}
+use lib.Ieee.{Float}
+use Rattle.paper.specs.declared.sizes.Sizes.{Sizes}
+use Rattle.paper.specs.declared.refusal.Refusal.{Refusal}
+use Rattle.paper.specs.declared.refusal.Refusal.the-variants.{Disagrees}
+use Rattle.paper.specs.declared.answer.Opened.{Opened}
+use Rattle.paper.specs.declared.answer.Opened.the-variants as opened
+use Rattle.paper.specs.declared.answer.Listed.{Listed}
+use Rattle.paper.specs.declared.answer.Listed.the-variants as listed
+use Rattle.paper.specs.declared.answer.Span.{Span}
+use Rattle.paper.specs.declared.answer.Span.the-variants as span
+use Rattle.paper.specs.declared.answer.Taken.{Taken}
+use Rattle.paper.specs.declared.answer.Taken.the-variants as taken
+use Rattle.paper.specs.declared.entry.Entry.{Entry}
+use Rattle.paper.specs.declared.entry.Found.{Found}
+use Rattle.paper.specs.declared.job.Job.{Job}
+use Rattle.paper.specs.declared.job.Begun.{Begun}
+use Rattle.paper.specs.declared.job.Step.{Step}
+use Rattle.paper.specs.declared.job.Step.the-variants as step
+use Rattle.paper.specs.Refusals.{numberOf, valueOf, kindSays}
+use Rattle.paper.specs.Sizes.{capacityOf, roomOf}
+use Rattle.paper.specs.Step.{stepFile, stepJob, stepAnswer}
+use Rattle.sdd.specs.declared.face.Why.{Why}
+use Rattle.sdd.specs.declared.face.COpened.{COpened}
+use Rattle.sdd.specs.declared.face.CListed.{CListed}
+use Rattle.sdd.specs.declared.face.CSpan.{CSpan}
+use Rattle.sdd.specs.declared.face.CEntry.{CEntry}
+use Rattle.sdd.specs.declared.face.CJob.{CJob}
+use Rattle.sdd.specs.declared.face.CBegun.{CBegun}
+use Rattle.sdd.specs.declared.face.CStepped.{CStepped}
+
+abbrev pub none : Why
+none = record { number = 0; value = 0 }
+
+abbrev pub whyOf : Refusal → Why
+whyOf r = record { number = numberOf r; value = valueOf r }
+
+abbrev pub takenC : Taken → Why
+takenC taken.Accepted = none
+takenC (taken.Refused r) = whyOf r
+
+-- `len` is the file's length, from which its room follows
+abbrev pub openedC : ℕ → Opened → COpened
+openedC len (opened.Opens z) =
+    record {
+      why = none;
+      n = z .n;
+      d = z .d;
+      l = z .l;
+      m = z .m;
+      u = z .u;
+      counter = z .counter;
+      kind = z .kind;
+      capacity = capacityOf z;
+      room = roomOf z len;
+    }
+openedC len (opened.Refused r) =
+    record { why = whyOf r; n = 0; d = 0; l = 0; m = 0; u = 0; counter = 0; kind = 0; capacity = 0; room = 0 }
+
+abbrev pub listedC : Listed → CListed
+listedC (listed.Scans n) = record { why = none; scans = n }
+listedC (listed.Refused r) = record { why = whyOf r; scans = 0 }
+
+abbrev pub spanC : Span → CSpan
+spanC (span.Part from to) = record { why = none; from = from; to = to }
+spanC (span.Refused r) = record { why = whyOf r; from = 0; to = 0 }
+
+-- an entry: a refused call's is all zeros already
+abbrev pub foundC : Found → CEntry
+foundC f =
+    record {
+      why = takenC (f .answer);
+      first = f .entry .first;
+      last = f .entry .last;
+      horizontal = f .entry .horizontal;
+      vertical = f .entry .vertical;
+      source = f .entry .source;
+      scan = f .entry .scan;
+      field4 = f .entry .field4;
+      field8 = f .entry .field8;
+      lst = f .entry .lst;
+      date = f .entry .date;
+      mode = f .entry .mode;
+      number = f .entry .number;
+      position = f .entry .position;
+      kind = kindSays (f .entry .kind) .number;
+      single = kindSays (f .entry .kind) .single;
+      double = kindSays (f .entry .kind) .double;
+    }
+
+-- a job and its numbers: "1 a save or keep, 0 a clear"
+abbrev pub jobC : Job → CJob
+jobC j =
+    record {
+      saves = cond (j .saves) 1 0;
+      slot = j .slot;
+      size = j .size;
+      span = j .span;
+      first = j .first;
+      written = j .written;
+      boot = j .boot;
+      about = j .about;
+    }
+
+abbrev pub jobOf : CJob → Job
+jobOf c =
+    record {
+      saves = eqb (c .saves) 1;
+      slot = c .slot;
+      size = c .size;
+      span = c .span;
+      first = c .first;
+      written = c .written;
+      boot = c .boot;
+      about = c .about;
+    }
+
+abbrev pub begunC : Begun → CBegun
+begunC b = record { why = takenC (b .answer); job = jobC (b .job) }
+
+-- what was done (0 wrote a record, 1 Saved, 2 Cleared), the record and the count
+abbrev pub doneC : ℕ → ℕ → ℕ → CJob → CStepped
+doneC what r count job = record { why = none; done = what; wrote = r; written = count; job = job }
+
+abbrev pub steppedC : Step → CJob → CStepped
+steppedC (step.Wrote r count) job = doneC 0 r count job
+steppedC (step.Saved r count) job = doneC 1 r count job
+steppedC (step.Cleared r count) job = doneC 2 r count job
+steppedC (step.Refused r) job = record { why = whyOf r; done = 0; wrote = 0; written = 0; job = job }
+
+-- "any other value: step answers 14"
+unfoldable pub stepC : List ℕ → List ℕ → CJob → CStepped
+stepC f scan c =
+    cond (ltb 1 (c .saves)) (steppedC (step.Refused Disagrees) c) (steppedC (stepAnswer f scan (jobOf c)) (jobC (stepJob f scan (jobOf c))))
+
+unfoldable pub stepFileC : List ℕ → List ℕ → CJob → List ℕ
+stepFileC f scan c = cond (ltb 1 (c .saves)) f (stepFile f scan (jobOf c))
+
+-- ---- no slot is above 4,096 and no reason above 6: a refusal's value fits the face
+
+abbrev pub TakenSmall : Taken → Type 0
+TakenSmall taken.Accepted = Unit
+TakenSmall (taken.Refused r) = valueOf r ≤ 4096
+
+abbrev pub SpanSmall : Span → Type 0
+SpanSmall (span.Part from to) = Unit
+SpanSmall (span.Refused r) = valueOf r ≤ 4096
+
+abbrev pub StepSmall : Step → Type 0
+StepSmall (step.Wrote r count) = Unit
+StepSmall (step.Saved r count) = Unit
+StepSmall (step.Cleared r count) = Unit
+StepSmall (step.Refused r) = valueOf r ≤ 4096
+
+abbrev pub ListedSmall : Listed → Type 0
+ListedSmall (listed.Scans n) = Unit
+ListedSmall (listed.Refused r) = valueOf r ≤ 4096

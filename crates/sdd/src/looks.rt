@@ -1,0 +1,146 @@
+//! The calls that look: open, list, entry, show, read, class and data.
+ghost use mathlib.Core.Path.{_≡_};
+ghost use lib.ListN.{length};
+ghost use Rattle.paper.specs.Index.{openOf};
+ghost use Rattle.paper.specs.Look.{listedOf, listedOut, foundOf, showOf, readOf};
+ghost use Rattle.paper.specs.Scan.{classOf, dataOf};
+ghost use Rattle.sdd.specs.Face.{openedC, listedC, spanC, foundC, SpanSmall};
+use super::face::CEntry;
+use super::face::CListed;
+use super::face::COpened;
+use super::face::CSpan;
+use super::kinds;
+use super::whys::accepted;
+use super::whys::taken;
+use super::whys::why;
+use paper::answer::Listed;
+use paper::answer::Opened;
+use paper::answer::Span;
+
+#[no_mangle]
+pub extern "C" fn sdd_open(file: &[u8]) -> COpened
+    ensures { λ r. ⌜ r ≡ openedC (length (now (file .entry))) (openOf (now (file .entry))) ⌝ }
+{
+    let o = index::open(file);
+    match o {
+        Opened::Opens(z) => COpened {
+            why: accepted(),
+            n: z.n as u64,
+            d: z.d as u64,
+            l: z.l as u64,
+            m: z.m as u64,
+            u: z.u as u64,
+            counter: z.counter as u64,
+            kind: z.kind as u64,
+            capacity: z.capacity() as u64,
+            room: z.room(file.len()) as u64,
+        },
+        Opened::Refused(r) => COpened {
+            why: why(r),
+            n: 0,
+            d: 0,
+            l: 0,
+            m: 0,
+            u: 0,
+            counter: 0,
+            kind: 0,
+            capacity: 0,
+            room: 0,
+        },
+    }
+}
+
+#[no_mangle]
+pub extern "C" fn sdd_list(file: &[u8], out: &mut [u32]) -> CListed
+    ensures { λ r. ⌜ r ≡ listedC (listedOf (now (file .entry)) (now (out .entry))) ⌝ }
+    ensures { λ r. ⌜ now (out .exit) ≡ listedOut (now (file .entry)) (now (out .entry)) ⌝ }
+{
+    let l = look::list(file, out);
+    match l {
+        Listed::Scans(n) => CListed {
+            why: accepted(),
+            scans: n as u64,
+        },
+        Listed::Refused(r) => CListed {
+            why: why(r),
+            scans: 0,
+        },
+    }
+}
+
+#[no_mangle]
+pub extern "C" fn sdd_entry_at(file: &[u8], slot: u64) -> CEntry
+    ensures { λ r. ⌜ r ≡ foundC (foundOf (now (file .entry)) slot) ⌝ }
+{
+    let f = look::entry(file, slot as usize);
+    let e = f.entry;
+    let a = f.answer;
+    let k = e.kind;
+    let source = e.source;
+    CEntry {
+        why: taken(a),
+        first: e.first,
+        last: e.last,
+        horizontal: e.horizontal,
+        vertical: e.vertical,
+        source,
+        scan: e.scan,
+        field4: e.field4,
+        field8: e.field8,
+        lst: e.lst,
+        date: e.date,
+        mode: e.mode,
+        number: e.number,
+        position: e.position,
+        kind: kinds::number(k),
+        single: kinds::single(k),
+        double: kinds::double(k),
+    }
+}
+
+// A span, in numbers.
+fn spanned(s: Span) -> CSpan
+    requires { ⌜ SpanSmall s ⌝ }
+    ensures { λ r. ⌜ r ≡ spanC s ⌝ }
+{
+    match s {
+        Span::Part(from, to) => CSpan {
+            why: accepted(),
+            from: from as u64,
+            to: to as u64,
+        },
+        Span::Refused(r) => CSpan {
+            why: why(r),
+            from: 0,
+            to: 0,
+        },
+    }
+}
+
+#[no_mangle]
+pub extern "C" fn sdd_show(file: &[u8], slot: u64) -> CSpan
+    ensures { λ r. ⌜ r ≡ spanC (showOf (now (file .entry)) slot) ⌝ }
+{
+    spanned(look::show(file, slot as usize))
+}
+
+#[no_mangle]
+pub extern "C" fn sdd_read(file: &[u8], slot: u64) -> CSpan
+    ensures { λ r. ⌜ r ≡ spanC (readOf (now (file .entry)) slot) ⌝ }
+{
+    spanned(look::read(file, slot as usize))
+}
+
+#[no_mangle]
+pub extern "C" fn sdd_class(run: &[u8], number: u64) -> CSpan
+    ensures { λ r. ⌜ r ≡ spanC (classOf (now (run .entry)) number) ⌝ }
+{
+    spanned(scan::class(run, number as usize))
+}
+
+#[no_mangle]
+pub extern "C" fn sdd_data(run: &[u8]) -> CSpan
+    ensures { λ r. ⌜ r ≡ spanC (dataOf (now (run .entry))) ⌝ }
+{
+    spanned(scan::data(run))
+}

@@ -1,0 +1,12 @@
+use Rattle.paper.specs.declared.job.Begun.{Begun}
+use Rattle.paper.specs.Refusals.{takenSays}
+use mathlib.Core.Path.{_≡_, refl, sym, ap, _∙_}
+use borrow.Author.Needs.{needs}
+use Rattle.store.proofs.keep.Statement.{statement}
+use Rattle.store.proofs.keep.Tie as tie
+
+returns : tie.Need-returns
+returns c = (ap (λ (b : Begun). takenSays (b .answer)) (c .kept .ensures), ap (λ (b : Begun). b .job) (c .kept .ensures))
+
+pub keep-spec : {M : Type 1} → statement M
+keep-spec = tie.close (tie.spec (λ c κs. search needs) returns)

@@ -1,0 +1,12 @@
+use Rattle.paper.specs.declared.job.Begun.{Begun}
+use Rattle.paper.specs.Refusals.{takenSays}
+use mathlib.Core.Path.{_≡_, refl, sym, ap, _∙_}
+use borrow.Author.Needs.{needs}
+use Rattle.store.proofs.save.Statement.{statement}
+use Rattle.store.proofs.save.Tie as tie
+
+returns : tie.Need-returns
+returns c = (ap (λ (b : Begun). takenSays (b .answer)) (c .saved .ensures), ap (λ (b : Begun). b .job) (c .saved .ensures))
+
+pub save-spec : {M : Type 1} → statement M
+save-spec = tie.close (tie.spec (λ c κs. search needs) returns)

@@ -1,0 +1,158 @@
+//! Save, keep and clear: judged, refused in order, and a job handed back. Nothing is changed yet.
+use super::agree;
+use super::boot;
+use super::entry;
+use paper::answer::Opened;
+use paper::answer::Ruled;
+use paper::answer::Taken;
+use paper::job::Begun;
+use paper::job::Job;
+use paper::refusal::Refusal;
+use paper::sizes::Sizes;
+ghost use mathlib.Core.Path.{_≡_};
+ghost use Prim.Native.Nat.{_≤_};
+ghost use lib.ListN.{length, take};
+ghost use Rattle.paper.specs.Store.{accepted, refused, clearJob, reasonOf, saveOf, keepOf, clearOf};
+ghost use Rattle.store.specs.Beginning.{Rowing, refusedBy, savesAt, placedOf};
+
+// A job of zeros.
+fn refused(r: Refusal) -> Begun
+    ensures { λ b. ⌜ b ≡ refused r ⌝ }
+{
+    Begun {
+        answer: Taken::Refused(r),
+        job: Job {
+            saves: false,
+            slot: 0,
+            size: 0,
+            span: 0,
+            first: 0,
+            written: 0,
+            boot: [0u8; 32],
+            about: [0u8; 54],
+        },
+    }
+}
+
+// A refusal of the file's, handed on.
+fn handed_on(o: Opened) -> Begun
+    ensures { λ b. ⌜ b ≡ refusedBy o ⌝ }
+{
+    match o {
+        Opened::Opens(_) => refused(Refusal::TooShort),
+        Opened::Refused(r) => refused(r),
+    }
+}
+
+// The number of the rule that the scan breaks, or 0.
+fn reason(v: Ruled) -> usize
+    ensures { λ n. ⌜ n ≡ reasonOf v ⌝ }
+{
+    match v {
+        Ruled::Keeps(_, _) => 0,
+        Ruled::Breaks(n) => n,
+    }
+}
+
+fn save_job(file: &[u8], slot: usize, size: usize, first: usize, about: [u8; 54]) -> Begun
+    requires { ⌜ 32 ≤ length (now file) ⌝ }
+    ensures { λ b. ⌜ b ≡ accepted (savesAt (now (file .entry)) slot size first about) ⌝ }
+{
+    let b = boot::head(file);
+    Begun {
+        answer: Taken::Accepted,
+        job: Job {
+            saves: true,
+            slot,
+            size,
+            span: file.len(),
+            first,
+            written: 0,
+            boot: b,
+            about,
+        },
+    }
+}
+
+fn clear_job(file: &[u8], slot: usize) -> Begun
+    requires { ⌜ 32 ≤ length (now file) ⌝ }
+    ensures { λ b. ⌜ b ≡ accepted (clearJob (now (file .entry)) slot) ⌝ }
+{
+    let b = boot::head(file);
+    Begun {
+        answer: Taken::Accepted,
+        job: Job {
+            saves: false,
+            slot,
+            size: 0,
+            span: file.len(),
+            first: 0,
+            written: 0,
+            boot: b,
+            about: [0u8; 54],
+        },
+    }
+}
+
+// 11, then 13: the rules over the scan, and the lowest free place, to which the slot's present scan is not free.
+fn place(file: &[u8], row: &[u32], z: Sizes, slot: usize, scan: &[u8], about: [u8; 54]) -> Begun
+    requires { ⌜ Rowing (now file) z (now row) ⌝ }
+    ensures { λ b. ⌜ b ≡ placedOf (now (file .entry)) slot (now (scan .entry)) about ⌝ }
+{
+    let broken = reason(scan::rules::judge(scan, true));
+    if 0 < broken {
+        return refused(Refusal::BadScan(broken));
+    }
+    let k = entry::records_for(z, scan.len());
+    let first = room::lowest_free(row, z, file.len(), k);
+    if first == 0 {
+        return refused(Refusal::NoRoom);
+    }
+    save_job(file, slot, scan.len(), first, about)
+}
+
+pub fn saved(file: &[u8], slot: usize, scan: &[u8], about: [u8; 54]) -> Begun
+    ensures { λ b. ⌜ b ≡ saveOf (now (file .entry)) slot (now (scan .entry)) about ⌝ }
+{
+    let mut row = [0u32; 8192];
+    let o = index::judged(file, &mut row);
+    let Opened::Opens(z) = o else {
+        return handed_on(o);
+    };
+    if !agree::has_slot(z, slot) {
+        return refused(Refusal::NoSuchSlot);
+    }
+    place(file, &row, z, slot, scan, about)
+}
+
+pub fn kept(file: &[u8], scan: &[u8], about: [u8; 54]) -> Begun
+    ensures { λ b. ⌜ b ≡ keepOf (now (file .entry)) (now (scan .entry)) about ⌝ }
+{
+    let mut row = [0u32; 8192];
+    let o = index::judged(file, &mut row);
+    let Opened::Opens(z) = o else {
+        return handed_on(o);
+    };
+    let slot = room::lowest_empty(&row, z);
+    if slot == 0 {
+        return refused(Refusal::NoEmptySlot);
+    }
+    place(file, &row, z, slot, scan, about)
+}
+
+pub fn cleared(file: &[u8], slot: usize) -> Begun
+    ensures { λ b. ⌜ b ≡ clearOf (now (file .entry)) slot ⌝ }
+{
+    let mut row = [0u32; 8192];
+    let o = index::judged(file, &mut row);
+    let Opened::Opens(z) = o else {
+        return handed_on(o);
+    };
+    if !agree::has_slot(z, slot) {
+        return refused(Refusal::NoSuchSlot);
+    }
+    if index::entry::empty(index::row::run_in(&row, slot)) {
+        return refused(Refusal::EmptySlot);
+    }
+    clear_job(file, slot)
+}

@@ -1,0 +1,166 @@
+//! The calls that are measured, as the library and plain Rust make them.
+
+use crate::file::{File, L, M};
+use face::{Calls, Job, Stepped};
+use std::fmt;
+use std::hint::black_box;
+use std::ptr::null;
+
+/// What the entry of a saved scan holds after its first and last record.
+const ABOUT: [u8; 54] = [3; 54];
+
+/// One call, or a whole job with all its steps.
+#[derive(Clone, Copy, Debug, PartialEq, Eq)]
+pub enum Call {
+    Open,
+    List,
+    Entry,
+    Show,
+    Read,
+    Blank,
+    /// The beginning of a save of so many bytes to the last slot.
+    BeginSave(usize),
+    BeginKeep(usize),
+    BeginClear,
+    /// A save of so many bytes to the last slot, from its beginning to Saved.
+    Save(usize),
+    /// A clear of the last slot, which holds a scan of so many bytes.
+    Clear(usize),
+}
+
+impl fmt::Display for Call {
+    fn fmt(&self, f: &mut fmt::Formatter) -> fmt::Result {
+        match self {
+            Call::Open => f.write_str("open"),
+            Call::List => f.write_str("list"),
+            Call::Entry => f.write_str("entry"),
+            Call::Show => f.write_str("show"),
+            Call::Read => f.write_str("read"),
+            Call::Blank => f.write_str("blank"),
+            Call::BeginSave(bytes) => write!(f, "begin save {bytes}"),
+            Call::BeginKeep(bytes) => write!(f, "begin keep {bytes}"),
+            Call::BeginClear => f.write_str("begin clear"),
+            Call::Save(bytes) => write!(f, "save {bytes}"),
+            Call::Clear(bytes) => write!(f, "clear {bytes}"),
+        }
+    }
+}
+
+/// A file with what its calls need, lent to one side at a time.
+pub struct Stage {
+    pub file: File,
+    pub scan: Vec<u8>,
+    out: Vec<u32>,
+    /// Record 1 and the last slot's entry, as they are before a job.
+    boot: [u8; 32],
+    entry: [u8; M],
+}
+
+impl Stage {
+    /// The file as the call finds it.
+    pub fn new(file: File, call: Call) -> Stage {
+        let bytes = match call {
+            Call::BeginSave(bytes) | Call::BeginKeep(bytes) | Call::Save(bytes) | Call::Clear(bytes) => bytes,
+            _ => 512,
+        };
+        let mut stage =
+            Stage { file, scan: sample::scan(bytes, 9), out: vec![0; 3 * 4096], boot: [0; 32], entry: [0; M] };
+        if matches!(call, Call::Clear(_)) {
+            let saved = stage.save(&plain::calls());
+            assert!(saved.done == 1, "no scan to clear: {:?}", saved.why);
+        }
+        let home = stage.home();
+        let bytes = stage.file.map.bytes();
+        stage.boot.copy_from_slice(&bytes[..32]);
+        stage.entry.copy_from_slice(&bytes[home..home + M]);
+        stage
+    }
+
+    fn slot(&self) -> u64 {
+        self.file.plan.slots as u64
+    }
+
+    /// Where the last slot's entry begins.
+    fn home(&self) -> usize {
+        L + (self.file.plan.slots - 1) * M
+    }
+
+    /// Makes the call once. A job is undone again: two copies of 96 bytes, for either side.
+    pub fn make(&mut self, calls: &Calls, call: Call) {
+        let (at, len) = (self.file.map.pointer(), self.file.map.len());
+        let (scan, scan_len) = (self.scan.as_ptr(), self.scan.len());
+        let middle = self.file.middle() as u64;
+        // SAFETY: every pointer comes with the length of memory that this stage owns.
+        unsafe {
+            match call {
+                Call::Open => _ = black_box((calls.open)(at, len)),
+                Call::List => _ = black_box((calls.list)(at, len, self.out.as_mut_ptr(), self.out.len())),
+                Call::Entry => _ = black_box((calls.entry_at)(at, len, middle)),
+                Call::Show => _ = black_box((calls.show)(at, len, middle)),
+                Call::Read => _ = black_box((calls.read)(at, len, middle)),
+                Call::Blank => _ = black_box((calls.blank)(at, len, self.file.plan.n() as u64, L as u64, M as u64)),
+                Call::BeginSave(_) => {
+                    black_box((calls.save)(at, len, self.slot(), scan, scan_len, ABOUT.as_ptr()));
+                }
+                Call::BeginKeep(_) => _ = black_box((calls.keep)(at, len, scan, scan_len, ABOUT.as_ptr())),
+                Call::BeginClear => _ = black_box((calls.clear)(at, len, middle)),
+                Call::Save(_) => {
+                    black_box(self.save(calls));
+                    self.undo();
+                }
+                Call::Clear(_) => {
+                    black_box(self.clear(calls));
+                    self.undo();
+                }
+            }
+        }
+    }
+
+    /// A save from its beginning to its last step's answer.
+    pub fn save(&mut self, calls: &Calls) -> Stepped {
+        let (at, len) = (self.file.map.pointer(), self.file.map.len());
+        let (scan, scan_len) = (self.scan.as_ptr(), self.scan.len());
+        // SAFETY: as in `make`.
+        let begun = unsafe { (calls.save)(at, len, self.slot(), scan, scan_len, ABOUT.as_ptr()) };
+        assert!(begun.why.number == 0, "save refused: {:?}", begun.why);
+        self.steps(calls, begun.job, scan, scan_len)
+    }
+
+    /// A clear, in the same way.
+    pub fn clear(&mut self, calls: &Calls) -> Stepped {
+        // SAFETY: as in `make`.
+        let begun = unsafe { (calls.clear)(self.file.map.pointer(), self.file.map.len(), self.slot()) };
+        assert!(begun.why.number == 0, "clear refused: {:?}", begun.why);
+        self.steps(calls, begun.job, null(), 0)
+    }
+
+    fn steps(&mut self, calls: &Calls, mut job: Job, scan: *const u8, scan_len: usize) -> Stepped {
+        let (at, len) = (self.file.map.pointer(), self.file.map.len());
+        loop {
+            // SAFETY: as in `make`.
+            let stepped = unsafe { (calls.step)(at, len, scan, scan_len, job) };
+            assert!(stepped.why.number == 0, "step refused: {:?}", stepped.why);
+            if stepped.done != 0 {
+                return stepped;
+            }
+            job = stepped.job;
+        }
+    }
+
+    fn undo(&mut self) {
+        let home = self.home();
+        let (boot, entry) = (self.boot, self.entry);
+        let bytes = self.file.map.bytes();
+        bytes[..32].copy_from_slice(&boot);
+        bytes[home..home + M].copy_from_slice(&entry);
+    }
+
+    /// The first record that a save of this stage's scan would take.
+    pub fn free_place(&mut self, calls: &Calls) -> usize {
+        let (at, len) = (self.file.map.pointer(), self.file.map.len());
+        // SAFETY: as in `make`.
+        let begun =
+            unsafe { (calls.save)(at, len, self.slot(), self.scan.as_ptr(), self.scan.len(), ABOUT.as_ptr()) };
+        begun.job.first as usize
+    }
+}

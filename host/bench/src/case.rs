@@ -1,0 +1,108 @@
+//! One line of the table: a call on a file, by the library, by plain Rust, and the limit of its bytes.
+
+use crate::call::{Call, Stage};
+use crate::clock::{Contender, Spread, contest, turns};
+use crate::file::{File, L, Plan};
+use crate::limit;
+use std::cell::RefCell;
+use std::time::Duration;
+
+/// A call on a file.
+#[derive(Clone, Copy, Debug)]
+pub struct Case {
+    pub call: Call,
+    pub plan: Plan,
+    /// The last slot in use shares a record with the first.
+    pub shares: bool,
+}
+
+/// What one run of a case took, in microseconds.
+#[derive(Clone, Copy, Debug)]
+pub struct Times {
+    pub library: f64,
+    pub plain: f64,
+    /// The decoding passes that the call cannot do without, and one copy of the scan.
+    pub limit: f64,
+    /// An open of the same file by the library.
+    pub open: f64,
+    /// The scan copied record by record, and compared.
+    pub copies: f64,
+}
+
+impl Case {
+    /// How often a call judges the index: at its beginning, and a whole job once more when it is confirmed.
+    fn judgements(&self) -> usize {
+        match self.call {
+            Call::Blank => 0,
+            Call::Save(_) | Call::Clear(_) => 2,
+            _ => 1,
+        }
+    }
+
+    fn stage(&self) -> Stage {
+        let file = File::new(self.plan);
+        Stage::new(if self.shares { file.share() } else { file }, self.call)
+    }
+
+    /// One run.
+    pub fn run(&self, budget: Duration) -> Times {
+        let (library, plain) = (sdd::calls(), plain::calls());
+        let mut stage = self.stage();
+        let place = (stage.free_place(&plain).max(1) - 1) * L;
+        let copied = if matches!(self.call, Call::Save(_)) { stage.scan.clone() } else { Vec::new() };
+        let mut row = vec![0u32; 2 * self.plan.slots];
+        let stage = RefCell::new(stage);
+        let mut contenders: Vec<Contender> = vec![
+            turns(|| stage.borrow_mut().make(&library, self.call)),
+            turns(|| stage.borrow_mut().make(&plain, self.call)),
+            turns(|| {
+                let mut stage = stage.borrow_mut();
+                let file = stage.file.map.bytes();
+                for _ in 0..self.judgements() {
+                    limit::decode(file, self.plan.slots, &mut row);
+                }
+                match self.call {
+                    Call::Blank => file[..self.plan.n() * L].fill(0),
+                    Call::Save(_) => file[place..place + copied.len()].copy_from_slice(&copied),
+                    _ => (),
+                }
+            }),
+            turns(|| stage.borrow_mut().make(&library, Call::Open)),
+            turns(|| {
+                let mut stage = stage.borrow_mut();
+                let file = stage.file.map.bytes();
+                limit::copy(file, place, &copied);
+                assert!(limit::same(file, place, &copied));
+            }),
+        ];
+        if !matches!(self.call, Call::Save(_)) {
+            contenders.truncate(3);
+        }
+        let least = contest(&mut contenders, budget);
+        let more = |i: usize| least.get(i).copied().unwrap_or(f64::NAN);
+        Times { library: least[0], plain: least[1], limit: least[2], open: more(3), copies: more(4) }
+    }
+}
+
+/// All runs of a case.
+pub struct Line {
+    pub case: Case,
+    pub runs: Vec<Times>,
+}
+
+impl Line {
+    /// The spread over the runs of something made of a run's times.
+    pub fn spread(&self, of: impl Fn(&Times) -> f64) -> Spread {
+        Spread::of(self.runs.iter().map(of))
+    }
+
+    /// The library's time over plain Rust's.
+    pub fn beside_plain(&self) -> Spread {
+        self.spread(|t| t.library / t.plain)
+    }
+
+    /// The library's time over the limit.
+    pub fn beside_limit(&self) -> Spread {
+        self.spread(|t| t.library / t.limit)
+    }
+}

@@ -1,0 +1,149 @@
+//! The files that are measured on.
+
+use crate::map::Map;
+use std::fmt;
+
+/// Bytes per record and per index entry.
+pub const L: usize = 512;
+pub const M: usize = 64;
+
+/// How the runs of the slots follow each other.
+#[derive(Clone, Copy, Debug, PartialEq, Eq)]
+pub enum Order {
+    /// Each run lies past those of the smaller slots.
+    Rising,
+    /// As dice say, the same dice at each run.
+    Random,
+    /// Each run lies before those of the smaller slots.
+    Falling,
+    /// Rising but for the last slot, which lies before all others.
+    Late,
+}
+
+impl Order {
+    /// All four.
+    pub const ALL: [Order; 4] = [Order::Rising, Order::Random, Order::Falling, Order::Late];
+}
+
+impl fmt::Display for Order {
+    fn fmt(&self, f: &mut fmt::Formatter) -> fmt::Result {
+        f.write_str(match self {
+            Order::Rising => "rising",
+            Order::Random => "random",
+            Order::Falling => "falling",
+            Order::Late => "late",
+        })
+    }
+}
+
+/// What a file is like.
+#[derive(Clone, Copy, Debug)]
+pub struct Plan {
+    /// The capacity, a multiple of eight.
+    pub slots: usize,
+    /// How many of them, from the first on, hold a scan.
+    pub used: usize,
+    /// Records per scan.
+    pub run: usize,
+    /// Free records after each scan.
+    pub gap: usize,
+    pub order: Order,
+    /// The records that the lent memory has room for.
+    pub room: usize,
+}
+
+impl Plan {
+    /// Records of bootstrap and index.
+    pub fn n(&self) -> usize {
+        self.slots * M / L + 1
+    }
+
+    fn place(&self, dice: &[usize], slot: usize) -> usize {
+        match self.order {
+            Order::Rising => slot - 1,
+            Order::Random => dice[slot - 1],
+            Order::Falling => self.used - slot,
+            Order::Late => slot % self.used,
+        }
+    }
+}
+
+/// A file in memory of its own.
+pub struct File {
+    pub plan: Plan,
+    pub map: Map,
+}
+
+impl File {
+    /// The file of a plan. The scan of each slot stands at the front of its records in the middle slot alone, which is
+    /// the one that is shown and read.
+    pub fn new(plan: Plan) -> File {
+        let mut map = Map::new(plan.room * L);
+        let dice = shuffled(plan.used);
+        let n = plan.n();
+        let mut highest = n;
+        let bytes = map.bytes();
+        // an index that was never written would stand on one page of zeros, which caches treat in their own way
+        bytes[..n * L].fill(0);
+        for slot in 1..=plan.used {
+            let first = n + 1 + plan.place(&dice, slot) * (plan.run + plan.gap);
+            let last = first + plan.run - 1;
+            highest = highest.max(last);
+            let entry = &mut bytes[L + (slot - 1) * M..][..M];
+            put32(entry, 0, first);
+            put32(entry, 4, last);
+            entry[16..32].copy_from_slice(b"ORION A         ");
+            entry[56..58].copy_from_slice(&520u16.to_be_bytes());
+        }
+        assert!(highest <= plan.room, "no room for {plan:?}");
+        for (i, number) in [n, highest - n, L, M, plan.used, 7, 0, 1].into_iter().enumerate() {
+            put32(bytes, 4 * i, number);
+        }
+        let mut file = File { plan, map };
+        if plan.used > 0 {
+            let (first, last) = file.run(file.middle());
+            let len = ((last - first + 1) * L).min(65_536);
+            file.map.bytes()[(first - 1) * L..][..len].copy_from_slice(&sample::scan(len, 1));
+        }
+        file
+    }
+
+    /// The slot in the middle of those in use.
+    pub fn middle(&self) -> usize {
+        self.plan.used.div_ceil(2)
+    }
+
+    /// First and last record of a slot.
+    pub fn run(&mut self, slot: usize) -> (usize, usize) {
+        let at = L + (slot - 1) * M;
+        let bytes = self.map.bytes();
+        let word = |at: usize| u32::from_be_bytes(bytes[at..at + 4].try_into().unwrap()) as usize;
+        (word(at), word(at + 4))
+    }
+
+    /// Makes the last slot in use share a record with the first one.
+    pub fn share(mut self) -> File {
+        let (first, last) = self.run(1);
+        let at = L + (self.plan.used - 1) * M;
+        put32(self.map.bytes(), at, first);
+        put32(self.map.bytes(), at + 4, last);
+        self
+    }
+}
+
+fn put32(bytes: &mut [u8], at: usize, number: usize) {
+    bytes[at..at + 4].copy_from_slice(&(number as u32).to_be_bytes());
+}
+
+/// 0 to `n` - 1 in random order.
+fn shuffled(n: usize) -> Vec<usize> {
+    let mut all: Vec<usize> = (0..n).collect();
+    let mut state = 0x9e37_79b9_7f4a_7c15_u64;
+    for i in (1..n).rev() {
+        state ^= state << 13;
+        state ^= state >> 7;
+        state ^= state << 17;
+        all.swap(i, (state % (i as u64 + 1)) as usize);
+    }
+    all
+}

@@ -1,0 +1,13 @@
+//! What each call costs: the library beside plain Rust of the same job, and beside the limit that its bytes set.
+//!
+//! All three run in one process, by turns, on the same memory. `docs/SPEED.md` says what is measured and what the
+//! limits are; `main.rs` prints the table and the verdicts.
+
+#![allow(missing_docs)] // a program in parts, of no use to others
+
+pub mod call;
+pub mod case;
+pub mod clock;
+pub mod file;
+pub mod limit;
+pub mod map;

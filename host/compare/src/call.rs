@@ -1,0 +1,264 @@
+//! A call with its arguments, its answer as the face gives it, and what the model expects.
+
+use face::{Begun, Entry, Job, Listed, Opened, Refusal, Span, Stepped};
+use model::Write;
+
+/// One of the twelve calls; what it is lent is the world's.
+#[allow(missing_docs)]
+#[derive(Clone, Copy, Debug)]
+pub enum Call {
+    Open,
+    List { out_len: usize },
+    Entry { slot: u64 },
+    Show { slot: u64 },
+    Read { slot: u64 },
+    Class { number: u64 },
+    Data,
+    Blank { n: u64, l: u64, m: u64 },
+    Save { slot: u64 },
+    Keep,
+    Clear { slot: u64 },
+    Step { job: Job },
+}
+
+/// The names of the calls, in the header's order.
+pub const NAMES: [&str; 12] =
+    ["open", "list", "entry", "show", "read", "class", "data", "blank", "save", "keep", "clear", "step"];
+
+impl Call {
+    /// The call's place in the header, from 0.
+    pub fn number(&self) -> usize {
+        match self {
+            Call::Open => 0,
+            Call::List { .. } => 1,
+            Call::Entry { .. } => 2,
+            Call::Show { .. } => 3,
+            Call::Read { .. } => 4,
+            Call::Class { .. } => 5,
+            Call::Data => 6,
+            Call::Blank { .. } => 7,
+            Call::Save { .. } => 8,
+            Call::Keep => 9,
+            Call::Clear { .. } => 10,
+            Call::Step { .. } => 11,
+        }
+    }
+}
+
+/// An answer, as the face gives it.
+#[allow(missing_docs)]
+#[derive(Clone, Copy, Debug)]
+pub enum Answer {
+    Opened(Opened),
+    Listed(Listed),
+    Entry(Entry),
+    Span(Span),
+    Refusal(Refusal),
+    Begun(Begun),
+    Stepped(Stepped),
+}
+
+impl Answer {
+    /// Why the call was refused.
+    pub fn why(&self) -> Refusal {
+        match self {
+            Answer::Opened(a) => a.why,
+            Answer::Listed(a) => a.why,
+            Answer::Entry(a) => a.why,
+            Answer::Span(a) => a.why,
+            Answer::Refusal(a) => *a,
+            Answer::Begun(a) => a.why,
+            Answer::Stepped(a) => a.why,
+        }
+    }
+
+    /// Every field in the header's order, little-endian and without padding: two
+    /// answers are the same where these bytes are. Every NaN value counts as one,
+    /// since the header promises no more; its bits are compared in their own field.
+    pub fn bytes(&self) -> Vec<u8> {
+        let mut all = Vec::with_capacity(168);
+        let why = self.why();
+        put4(&mut all, &[why.number, why.value]);
+        match self {
+            Answer::Opened(a) => put8(&mut all, &[a.n, a.d, a.l, a.m, a.u, a.counter, a.kind, a.capacity, a.room]),
+            Answer::Listed(a) => put8(&mut all, &[a.scans]),
+            Answer::Entry(a) => put_entry(&mut all, a),
+            Answer::Span(a) => put8(&mut all, &[a.from, a.to]),
+            Answer::Refusal(_) => (),
+            Answer::Begun(a) => put_job(&mut all, &a.job),
+            Answer::Stepped(a) => {
+                put8(&mut all, &[a.done, a.record, a.written]);
+                put_job(&mut all, &a.job);
+            }
+        }
+        all
+    }
+}
+
+fn put4(all: &mut Vec<u8>, numbers: &[u32]) {
+    numbers.iter().for_each(|number| all.extend(number.to_le_bytes()));
+}
+
+fn put8(all: &mut Vec<u8>, numbers: &[u64]) {
+    numbers.iter().for_each(|number| all.extend(number.to_le_bytes()));
+}
+
+/// A job's fields, as [`Answer::bytes`] has them.
+pub fn put_job(all: &mut Vec<u8>, job: &Job) {
+    put8(all, &[job.saves, job.slot, job.scan_len, job.file_len, job.first, job.written]);
+    all.extend(job.boot);
+    all.extend(job.about);
+}
+
+fn put_entry(all: &mut Vec<u8>, a: &Entry) {
+    put4(all, &[a.first, a.last, a.horizontal, a.vertical]);
+    all.extend(a.source);
+    put4(all, &[a.scan, a.field4]);
+    put8(all, &[a.field8]);
+    put4(all, &[a.lst, a.date]);
+    for half in [a.mode, a.number, a.position, a.kind as i16] {
+        all.extend(half.to_le_bytes());
+    }
+    put4(all, &[if a.single_value.is_nan() { f32::NAN.to_bits() } else { a.single_value.to_bits() }]);
+    put8(all, &[if a.double_value.is_nan() { f64::NAN.to_bits() } else { a.double_value.to_bits() }]);
+}
+
+/// What the model expects of a call: the answer, and all memory that changes.
+pub struct Expected {
+    /// The answer.
+    pub answer: Answer,
+    /// The change of the file, if any.
+    pub write: Option<Write>,
+    /// The elements written to `out`.
+    pub out: Vec<u32>,
+}
+
+impl Expected {
+    /// Asks the model.
+    pub fn of(call: &Call, file: &[u8], scan: &[u8], about: &model::About) -> Expected {
+        let only = |answer| Expected { answer, write: None, out: Vec::new() };
+        match *call {
+            Call::Open => only(Answer::Opened(opened(file))),
+            Call::List { out_len } => listed(file, out_len),
+            Call::Entry { slot } => only(Answer::Entry(entry(file, slot))),
+            Call::Show { slot } => only(span(model::show(file, slot))),
+            Call::Read { slot } => only(span(model::read(file, slot))),
+            Call::Class { number } => only(span(model::class(scan, number))),
+            Call::Data => only(span(model::data(scan))),
+            Call::Blank { n, l, m } => blank(file, n, l, m),
+            Call::Save { slot } => only(begun(model::save(file, slot, scan, about))),
+            Call::Keep => only(begun(model::keep(file, scan, about))),
+            Call::Clear { slot } => only(begun(model::clear(file, slot))),
+            Call::Step { job } => stepped(file, scan, &job),
+        }
+    }
+}
+
+fn refusal(why: model::Refusal) -> Refusal {
+    Refusal { number: why.number, value: why.value }
+}
+
+fn opened(file: &[u8]) -> Opened {
+    match model::open(file) {
+        Err(why) => Opened { why: refusal(why), ..Opened::ZEROS },
+        Ok(z) => Opened {
+            why: Refusal::NONE,
+            n: z.n,
+            d: z.d,
+            l: z.l,
+            m: z.m,
+            u: z.u,
+            counter: z.counter,
+            kind: z.kind,
+            capacity: z.capacity(),
+            room: model::room(file.len() as u64, &z),
+        },
+    }
+}
+
+fn listed(file: &[u8], out_len: usize) -> Expected {
+    let (why, out) = match model::list(file, out_len) {
+        Err(why) => (refusal(why), Vec::new()),
+        Ok(out) => (Refusal::NONE, out),
+    };
+    Expected { answer: Answer::Listed(Listed { why, scans: out.len() as u64 / 3 }), write: None, out }
+}
+
+fn entry(file: &[u8], slot: u64) -> Entry {
+    match model::entry(file, slot) {
+        Err(why) => Entry { why: refusal(why), ..Entry::ZEROS },
+        Ok(e) => Entry {
+            why: Refusal::NONE,
+            first: e.first,
+            last: e.last,
+            horizontal: e.horizontal,
+            vertical: e.vertical,
+            source: e.source,
+            scan: e.scan,
+            field4: e.field4,
+            field8: e.field8,
+            lst: e.lst,
+            date: e.date,
+            mode: e.mode,
+            number: e.number,
+            position: e.position,
+            kind: match e.kind {
+                model::Kind::Other => 0,
+                model::Kind::Continuum => 1,
+                model::Kind::SpectralLine => 2,
+            },
+            single_value: f32::from_bits(e.field4),
+            double_value: f64::from_bits(e.field8),
+        },
+    }
+}
+
+fn span(answer: model::Answer<(u64, u64)>) -> Answer {
+    Answer::Span(match answer {
+        Err(why) => Span { why: refusal(why), from: 0, to: 0 },
+        Ok((from, to)) => Span { why: Refusal::NONE, from, to },
+    })
+}
+
+fn blank(file: &[u8], n: u64, l: u64, m: u64) -> Expected {
+    match model::blank(file.len() as u64, n, l, m) {
+        Err(why) => Expected { answer: Answer::Refusal(refusal(why)), write: None, out: Vec::new() },
+        Ok(write) => Expected { answer: Answer::Refusal(Refusal::NONE), write: Some(write), out: Vec::new() },
+    }
+}
+
+fn begun(answer: model::Answer<model::Job>) -> Answer {
+    Answer::Begun(match answer {
+        Err(why) => Begun { why: refusal(why), job: Job::ZEROS },
+        Ok(job) => Begun { why: Refusal::NONE, job: to_face(&job) },
+    })
+}
+
+fn stepped(file: &[u8], scan: &[u8], job: &Job) -> Expected {
+    match model::step(file, scan, &to_model(job)) {
+        Err(why) => {
+            let answer = Stepped { why: refusal(why), done: 0, record: 0, written: 0, job: *job };
+            Expected { answer: Answer::Stepped(answer), write: None, out: Vec::new() }
+        }
+        Ok(stepped) => {
+            let (done, record) = match stepped.done {
+                model::Done::Wrote(record) => (0, record),
+                model::Done::Saved => (1, 0),
+                model::Done::Cleared => (2, 0),
+            };
+            let job = to_face(&stepped.job);
+            let answer = Stepped { why: Refusal::NONE, done, record, written: job.written, job };
+            Expected { answer: Answer::Stepped(answer), write: stepped.write, out: Vec::new() }
+        }
+    }
+}
+
+fn to_face(job: &model::Job) -> Job {
+    let model::Job { saves, slot, scan_len, file_len, first, written, boot, about } = *job;
+    Job { saves, slot, scan_len, file_len, first, written, boot, about }
+}
+
+fn to_model(job: &Job) -> model::Job {
+    let Job { saves, slot, scan_len, file_len, first, written, boot, about } = *job;
+    model::Job { saves, slot, scan_len, file_len, first, written, boot, about }
+}

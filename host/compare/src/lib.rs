@@ -1,0 +1,27 @@
+//! Holds anything with the library's face against the model, on random cases.
+//!
+//! A [`World`] has a file, a scan and an entry's bytes. Each call on it is first
+//! asked of the model, then made of a [`Subject`] on memory of its own between
+//! guard pages, and the whole answer and all memory are compared. The cases
+//! come in themes; [`run`] mixes them from a seed.
+
+mod call;
+mod damage;
+mod guarded;
+mod linked;
+mod make;
+mod recorder;
+mod rng;
+mod run;
+mod seed;
+mod sys;
+mod tally;
+mod themes;
+mod world;
+
+pub use linked::Linked;
+pub use recorder::Recorder;
+pub use run::{Ended, Options, run, say_where_on_a_fault};
+pub use seed::seed_from_environment;
+pub use tally::Tally;
+pub use world::{Disagreement, Subject, World};

@@ -1,0 +1,138 @@
+//! A subject that is linked into this process: its memory stands between guard pages.
+
+use crate::call::{Answer, Call, Expected};
+use crate::guarded::{Guarded, Side};
+use crate::rng::Rng;
+use crate::world::Subject;
+use face::Calls;
+use model::About;
+use std::ptr::null_mut;
+
+/// A file above this size is not compared whole after every call, but at the end of its round.
+const LARGE: usize = 16 << 20;
+/// What the elements for a listing are filled with before the call.
+const UNTOUCHED: u32 = 0x5a5a_5a5a;
+
+/// Anything with the library's face.
+pub struct Linked {
+    calls: Calls,
+    file: Guarded,
+    scan: Guarded,
+    about: Guarded,
+    /// Where nothing is lent the pointer may be anything: sometimes it is null.
+    nulls: bool,
+}
+
+impl Linked {
+    /// By its calls.
+    pub fn new(calls: Calls) -> Linked {
+        let none = || Guarded::zeros(0, Side::Right);
+        Linked { calls, file: none(), scan: none(), about: none(), nulls: false }
+    }
+
+    fn pointer(nulls: bool, memory: &mut Guarded) -> *mut u8 {
+        if nulls && memory.bytes().is_empty() { null_mut() } else { memory.pointer() }
+    }
+
+    /// Makes the call.
+    fn make(&mut self, call: &Call, out: &mut Guarded) -> Answer {
+        let (file_len, scan_len) = (self.file.bytes().len(), self.scan.bytes().len());
+        let file = Linked::pointer(self.nulls, &mut self.file);
+        let scan = Linked::pointer(self.nulls, &mut self.scan);
+        let out_at = Linked::pointer(self.nulls, out).cast::<u32>();
+        let about = self.about.pointer();
+        let calls = &self.calls;
+        // SAFETY: every pointer comes with the length of the memory behind it, which this subject
+        // owns and lends to this call alone; `about` is 54 bytes.
+        unsafe {
+            match *call {
+                Call::Open => Answer::Opened((calls.open)(file, file_len)),
+                Call::List { out_len } => Answer::Listed((calls.list)(file, file_len, out_at, out_len)),
+                Call::Entry { slot } => Answer::Entry((calls.entry_at)(file, file_len, slot)),
+                Call::Show { slot } => Answer::Span((calls.show)(file, file_len, slot)),
+                Call::Read { slot } => Answer::Span((calls.read)(file, file_len, slot)),
+                Call::Class { number } => Answer::Span((calls.class)(scan, scan_len, number)),
+                Call::Data => Answer::Span((calls.data)(scan, scan_len)),
+                Call::Blank { n, l, m } => Answer::Refusal((calls.blank)(file, file_len, n, l, m)),
+                Call::Save { slot } => Answer::Begun((calls.save)(file, file_len, slot, scan, scan_len, about)),
+                Call::Keep => Answer::Begun((calls.keep)(file, file_len, scan, scan_len, about)),
+                Call::Clear { slot } => Answer::Begun((calls.clear)(file, file_len, slot)),
+                Call::Step { job } => Answer::Stepped((calls.step)(file, file_len, scan, scan_len, job)),
+            }
+        }
+    }
+
+    /// The memory for a listing, filled with what should stay where nothing is written.
+    fn out(&self, call: &Call) -> Guarded {
+        let out_len = if let Call::List { out_len } = call { *out_len } else { 0 };
+        let side = if self.nulls { Side::Left } else { Side::Right };
+        Guarded::copy(&UNTOUCHED.to_ne_bytes().repeat(out_len), side)
+    }
+}
+
+impl Subject for Linked {
+    fn new_file(&mut self, len: usize, rng: &mut Rng) {
+        self.file = Guarded::zeros(len, side(rng));
+        self.nulls = rng.percent(50);
+    }
+
+    fn patch_file(&mut self, at: usize, bytes: &[u8]) {
+        self.file.bytes_mut()[at..at + bytes.len()].copy_from_slice(bytes);
+    }
+
+    fn new_scan(&mut self, scan: &[u8], rng: &mut Rng) {
+        self.scan = Guarded::copy(scan, side(rng));
+    }
+
+    fn new_about(&mut self, about: &About, rng: &mut Rng) {
+        self.about = Guarded::copy(about, side(rng));
+    }
+
+    fn call(
+        &mut self,
+        call: &Call,
+        expected: &Expected,
+        file: &[u8],
+        scan: &[u8],
+        about: &About,
+    ) -> Result<(), String> {
+        let mut out = self.out(call);
+        let answer = self.make(call, &mut out);
+        if answer.bytes() != expected.answer.bytes() {
+            return Err(format!("answered {answer:?}\n  expected {:?}", expected.answer));
+        }
+        if file.len() <= LARGE {
+            self.whole_file(file)?;
+        } else if let Some(write) = &expected.write {
+            same("the file where it is written", &self.file.bytes()[write.at..][..write.bytes.len()], &write.bytes)?;
+        }
+        same("the scan", self.scan.bytes(), scan)?;
+        same("the entry's bytes", self.about.bytes(), about)?;
+        let mut wanted = UNTOUCHED.to_ne_bytes().repeat(out.bytes().len() / 4);
+        for (i, element) in expected.out.iter().enumerate() {
+            wanted[4 * i..][..4].copy_from_slice(&element.to_ne_bytes());
+        }
+        same("the listing", out.bytes(), &wanted)?;
+        let beside = [&mut self.file, &mut self.scan, &mut self.about, &mut out];
+        if beside.into_iter().any(|memory| !memory.slack_stands()) {
+            return Err("something was written beside what was lent".to_string());
+        }
+        Ok(())
+    }
+
+    fn whole_file(&mut self, file: &[u8]) -> Result<(), String> {
+        same("the file", self.file.bytes(), file)
+    }
+}
+
+fn side(rng: &mut Rng) -> Side {
+    rng.pick(&[Side::Left, Side::Right])
+}
+
+fn same(what: &str, has: &[u8], wanted: &[u8]) -> Result<(), String> {
+    if has == wanted {
+        return Ok(());
+    }
+    let at = has.iter().zip(wanted).position(|(a, b)| a != b).unwrap_or(0);
+    Err(format!("{what} is not as it should be: at byte {at} it has {} and not {}", has[at], wanted[at]))
+}

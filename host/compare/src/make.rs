@@ -1,0 +1,204 @@
+//! Files, scans and entries that are as they should be; `damage` does the rest.
+
+use crate::rng::Rng;
+use model::About;
+
+/// N, L and M.
+#[allow(missing_docs)]
+#[derive(Clone, Copy, Debug)]
+pub struct Shape {
+    pub n: u64,
+    pub l: u64,
+    pub m: u64,
+}
+
+impl Shape {
+    /// The number of slots.
+    pub fn capacity(&self) -> u64 {
+        (self.n - 1) * self.l / self.m
+    }
+}
+
+/// A shape for a file of some kilobytes.
+pub fn small_shape(rng: &mut Rng) -> Shape {
+    let m = match rng.below(6) {
+        0 | 1 => 64,
+        2 => 128,
+        3 => rng.between(65, 80),
+        4 => rng.between(64, 600),
+        _ => rng.between(512, 1_024),
+    };
+    let (fewest, most) = (512u64.div_ceil(m), 4_096 / m);
+    let per_record = if rng.percent(85) { (fewest + rng.below(3)).min(most) } else { rng.between(fewest, most) };
+    Shape { n: rng.between(2, 5), l: m * per_record, m }
+}
+
+/// A shape with many slots, up to 4,096.
+pub fn wide_shape(rng: &mut Rng) -> Shape {
+    match rng.below(5) {
+        0 | 1 => Shape { n: 513, l: 512, m: 64 },
+        2 => Shape { n: 65, l: 4_096, m: 64 },
+        3 => Shape { n: 129, l: 512, m: 64 },
+        _ => Shape { n: rng.between(200, 240), l: 1_088, m: 64 },
+    }
+}
+
+/// Puts a number into 32 bits.
+pub fn put32(bytes: &mut [u8], at: usize, number: u64) {
+    bytes[at..at + 4].copy_from_slice(&(number as u32).to_be_bytes());
+}
+
+/// The number in 32 bits.
+pub fn get32(bytes: &[u8], at: usize) -> u64 {
+    u64::from(u32::from_be_bytes(bytes[at..at + 4].try_into().unwrap()))
+}
+
+/// Where a slot's entry begins.
+pub fn home(shape: &Shape, slot: u64) -> usize {
+    (shape.l + (slot - 1) * shape.m) as usize
+}
+
+/// Puts the runs of some scans into the index; the rest of each entry stays random.
+fn put_runs(rng: &mut Rng, file: &mut [u8], shape: &Shape, d: u64, fill: u64) -> u64 {
+    let mut slots: Vec<u64> = (1..=shape.capacity()).collect();
+    for i in (1..slots.len()).rev() {
+        slots.swap(i, rng.below(i as u64 + 1) as usize);
+    }
+    let mut highest = 0;
+    let mut record = shape.n + 1;
+    while record <= shape.n + d {
+        if !rng.percent(fill) {
+            record += 1;
+            continue;
+        }
+        let Some(slot) = slots.pop() else { break };
+        let longest = (shape.n + d - record + 1).min(if rng.percent(3) { 300 } else { 4 });
+        let last = record + rng.below(longest);
+        put32(file, home(shape, slot), record);
+        put32(file, home(shape, slot) + 4, last);
+        put_scan(rng, &mut file[((record - 1) * shape.l) as usize..(last * shape.l) as usize]);
+        highest = highest.max(slot);
+        record = last + 1;
+    }
+    highest
+}
+
+/// Often puts a scan at the front of a run, sometimes a damaged one.
+fn put_scan(rng: &mut Rng, run: &mut [u8]) {
+    if rng.percent(30) {
+        return;
+    }
+    let mut made = scan(rng, run.len());
+    if rng.percent(25) {
+        crate::damage::scan_numbers(rng, &mut made);
+    }
+    run[..made.len()].copy_from_slice(&made);
+}
+
+/// A file that opens, with scans in some of its `d` data records and `tail` bytes more
+/// than it uses. Every byte that is not judged is random.
+pub fn file(rng: &mut Rng, shape: &Shape, d: u64, tail: usize, fill: u64) -> Vec<u8> {
+    let mut file = rng.bytes(((shape.n + d) * shape.l) as usize + tail);
+    for slot in 1..=shape.capacity() {
+        file[home(shape, slot)..][..8].fill(0);
+        let mode = random_mode(rng).to_be_bytes();
+        file[home(shape, slot) + 56..][..2].copy_from_slice(&mode);
+    }
+    let highest = put_runs(rng, &mut file, shape, d, fill);
+    let u = if rng.percent(40) { highest } else { rng.between(highest, shape.capacity().max(highest)) };
+    let counter = rng.pick(&[0, 1, u64::from(u32::MAX), 0x7fff_ffff]);
+    for (i, word) in [shape.n, d, shape.l, shape.m, u, counter, rng.below(2), 1].into_iter().enumerate() {
+        put32(&mut file, 4 * i, word);
+    }
+    file
+}
+
+/// A small file that opens.
+pub fn small_file(rng: &mut Rng) -> (Shape, Vec<u8>) {
+    let shape = small_shape(rng);
+    let d = if rng.percent(10) { 0 } else { rng.between(1, 20) };
+    let tail = match rng.below(4) {
+        0 => 0,
+        1 => rng.below(shape.l),
+        _ => rng.below(6 * shape.l),
+    };
+    let fill = rng.pick(&[20, 50, 80, 100]);
+    let made = file(rng, &shape, d, tail as usize, fill);
+    (shape, made)
+}
+
+/// Modes at and around the two ranges.
+fn random_mode(rng: &mut Rng) -> i16 {
+    match rng.below(4) {
+        0 => rng.pick(&[255, 256, 304, 305, 511, 512, 560, 561, 0, -1, i16::MIN]),
+        1 => rng.between(256, 304) as i16,
+        2 => rng.between(512, 560) as i16,
+        _ => rng.next() as i16,
+    }
+}
+
+/// An entry's bytes 8 to 61: random, with special floats and modes more often than chance has them.
+pub fn about(rng: &mut Rng) -> About {
+    let mut about: About = rng.bytes(54).try_into().unwrap();
+    if rng.percent(50) {
+        let bits = rng.pick(&[0x7fc0_0000u32, 0x7f80_0001, 0xff80_0000, 0xffc1_2345, 0x8000_0000, 1, 0x3f80_0000]);
+        about[28..32].copy_from_slice(&bits.to_be_bytes());
+    }
+    if rng.percent(50) {
+        let bits = rng.pick(&[0x7ff8 << 48, 0x7ff0_0000_0000_0001u64, 0xfff0 << 48, 0x8000 << 48, 1, 0x3ff0 << 48]);
+        about[32..40].copy_from_slice(&bits.to_be_bytes());
+    }
+    about[48..50].copy_from_slice(&random_mode(rng).to_be_bytes());
+    about
+}
+
+/// Class starts that rise: the first is 5, the second 21 or more, the last at most `highest`.
+fn starts(rng: &mut Rng, classes: u64, highest: u64) -> Vec<u64> {
+    let mut spare = highest - (19 + classes);
+    let mut starts = vec![5];
+    let mut next = 21;
+    for _ in 2..=classes {
+        let skipped = if rng.percent(25) { rng.below(spare + 1) } else { 0 };
+        spare -= skipped;
+        next += skipped;
+        starts.push(next);
+        next += 1;
+    }
+    starts
+}
+
+/// A number from `low` to `high` in steps: often one of the two ends.
+fn length(rng: &mut Rng, low: u64, high: u64, step: u64) -> u64 {
+    match rng.below(4) {
+        0 => low,
+        1 => low + (high - low) / step * step,
+        _ => low + rng.below((high - low) / step + 1) * step,
+    }
+}
+
+/// A scan that obeys all rules, of at most `most` bytes (272 or more).
+pub fn scan(rng: &mut Rng, most: usize) -> Vec<u8> {
+    let most = most as u64;
+    let classes = rng.between(13, 15);
+    let starts = starts(rng, classes, (most / 8).min(8_192));
+    let head = length(rng, 8 * starts[starts.len() - 1], most.min(65_536) / 8 * 8, 8);
+    let data = length(rng, 0, (most - head).min(65_536) / 4 * 4, 4);
+    let mut scan = rng.bytes((head + data) as usize);
+    put_preamble(&mut scan, &starts);
+    put_lengths(&mut scan, head as f64, data as f64);
+    scan
+}
+
+/// The number of classes and their starts.
+pub fn put_preamble(scan: &mut [u8], starts: &[u64]) {
+    scan[0..2].copy_from_slice(&(starts.len() as i16).to_be_bytes());
+    for (i, start) in starts.iter().enumerate() {
+        scan[2 + 2 * i..][..2].copy_from_slice(&(*start as i16).to_be_bytes());
+    }
+}
+
+/// HEADLEN and DATALEN.
+pub fn put_lengths(scan: &mut [u8], head: f64, data: f64) {
+    scan[32..40].copy_from_slice(&head.to_be_bytes());
+    scan[40..48].copy_from_slice(&data.to_be_bytes());
+}

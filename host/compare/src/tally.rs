@@ -1,0 +1,100 @@
+//! What was reached: calls, refusals and reasons.
+
+use crate::call::{Answer, Call, NAMES};
+use std::fmt;
+
+/// The counts of a run.
+#[derive(Clone, Default, PartialEq, Eq)]
+pub struct Tally {
+    /// By call, in the header's order.
+    pub calls: [u64; 12],
+    /// By refusal; the element at 0 counts accepted calls.
+    pub refusals: [u64; 18],
+    /// By the reason in refusal 11; the element at 0 is not used.
+    pub reasons: [u64; 7],
+    /// Steps that answered Saved, and Cleared.
+    pub confirmed: [u64; 2],
+}
+
+impl Tally {
+    /// Counts one call.
+    pub(crate) fn count(&mut self, call: &Call, answer: &Answer) {
+        let why = answer.why();
+        self.calls[call.number()] += 1;
+        self.refusals[why.number as usize] += 1;
+        if why.number == 11 {
+            self.reasons[why.value as usize] += 1;
+        }
+        if let Answer::Stepped(stepped) = answer
+            && stepped.done > 0
+        {
+            self.confirmed[stepped.done as usize - 1] += 1;
+        }
+    }
+
+    /// All calls.
+    pub fn cases(&self) -> u64 {
+        self.calls.iter().sum()
+    }
+
+    /// The counts as one line of numbers, to hand from a process to another.
+    pub fn line(&self) -> String {
+        let all = self.numbers().map(|number| number.to_string()).collect::<Vec<_>>();
+        format!("tally {}", all.join(" "))
+    }
+
+    /// Adds the counts of such a line; whether it was one.
+    pub fn add_line(&mut self, line: &str) -> bool {
+        let Some(numbers) = line.strip_prefix("tally ") else { return false };
+        let numbers: Vec<u64> = numbers.split(' ').map(|number| number.parse().unwrap()).collect();
+        assert_eq!(numbers.len(), self.numbers().count());
+        let counts =
+            self.calls.iter_mut().chain(&mut self.refusals).chain(&mut self.reasons).chain(&mut self.confirmed);
+        counts.zip(numbers).for_each(|(count, number)| *count += number);
+        true
+    }
+
+    fn numbers(&self) -> impl Iterator<Item = u64> {
+        self.calls.iter().chain(&self.refusals).chain(&self.reasons).chain(&self.confirmed).copied()
+    }
+
+    /// Refusals, reasons and confirmations that no case reached.
+    pub fn unreached(&self) -> Vec<String> {
+        let mut missing = Vec::new();
+        let mut look = |name: &str, counts: &[u64], from: usize| {
+            for (number, count) in counts.iter().enumerate().skip(from) {
+                if *count == 0 {
+                    missing.push(format!("{name} {number}"));
+                }
+            }
+        };
+        look("refusal", &self.refusals, 0);
+        look("reason", &self.reasons, 1);
+        look("confirmed", &self.confirmed, 0);
+        look("call", &self.calls, 0);
+        missing
+    }
+}
+
+impl fmt::Display for Tally {
+    fn fmt(&self, f: &mut fmt::Formatter) -> fmt::Result {
+        writeln!(f, "{} calls compared", self.cases())?;
+        for (name, count) in NAMES.iter().zip(self.calls) {
+            writeln!(f, "  {name:<8} {count:>9}")?;
+        }
+        writeln!(f, "answers")?;
+        writeln!(
+            f,
+            "  accepted {:>9}  (Saved {}, Cleared {})",
+            self.refusals[0], self.confirmed[0], self.confirmed[1]
+        )?;
+        for (number, count) in self.refusals.iter().enumerate().skip(1) {
+            write!(f, "  {number:<8} {count:>9}")?;
+            if number == 11 {
+                write!(f, "  (by rule: {:?})", &self.reasons[1..])?;
+            }
+            writeln!(f)?;
+        }
+        Ok(())
+    }
+}

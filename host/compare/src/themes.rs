@@ -1,0 +1,44 @@
+//! The themes of the comparison. A round of a theme sets a world up and makes
+//! some dozens of calls on it.
+
+mod blanks;
+mod confirming;
+mod cuts;
+mod edges;
+mod files;
+mod forged;
+mod giant;
+mod histories;
+mod jobs;
+mod scans;
+mod wide;
+
+use crate::world::{Round, World};
+
+/// A theme: its name, and how often its turn comes among a hundred.
+pub struct Theme {
+    /// The name.
+    pub name: &'static str,
+    /// Its share.
+    pub share: u64,
+    /// One round of it.
+    pub round: fn(&mut World) -> Round,
+}
+
+/// The themes whose turn comes by chance.
+pub const THEMES: [Theme; 8] = [
+    Theme { name: "files", share: 26, round: files::round },
+    Theme { name: "edges", share: 12, round: edges::round },
+    Theme { name: "scans", share: 20, round: scans::round },
+    Theme { name: "blanks", share: 6, round: blanks::round },
+    Theme { name: "histories", share: 16, round: histories::round },
+    Theme { name: "cuts", share: 6, round: cuts::round },
+    Theme { name: "forged", share: 7, round: forged::round },
+    Theme { name: "confirming", share: 7, round: confirming::round },
+];
+
+/// Up to 4,096 slots; dear, so its turn comes by count.
+pub const WIDE: Theme = Theme { name: "wide", share: 0, round: wide::round };
+
+/// More than 1,000,000 records; very dear.
+pub const GIANT: Theme = Theme { name: "giant", share: 0, round: giant::round };

@@ -1,0 +1,55 @@
+//! A file with room for more than 1,000,000 records: memory that is there only where it is touched.
+
+use super::{files, jobs};
+use crate::call::Call;
+use crate::make::{self, Shape, put32};
+use crate::world::{Round, World};
+
+const MOST: u64 = 1_000_000;
+
+pub fn round(world: &mut World) -> Round {
+    let shape = Shape { n: world.rng.between(2, 4), l: 512, m: 64 };
+    let records = MOST + world.rng.pick(&[1, 2, 5]);
+    let extra = world.rng.below(shape.l);
+    world.set_zeros((records * shape.l + extra) as usize);
+    world.call(Call::Blank { n: shape.n, l: shape.l, m: shape.m })?;
+    nearly_full(world, &shape);
+    world.call(Call::Open)?;
+    files::list(world, &shape)?;
+    // from the place that is left: one that fits exactly or nearly, and one record too many
+    for most in [1_024, 512, 1_536] {
+        let scan = make::scan(&mut world.rng, most);
+        world.set_scan(scan);
+        if let Some(job) = world.begin(Call::Keep)? {
+            jobs::run(world, job, Call::Keep)?;
+        }
+    }
+    world.call(Call::Show { slot: 1 })?;
+    world.call(Call::Read { slot: 2 })?;
+    files::list(world, &shape)?;
+    one_more(world, &shape)?;
+    world.whole_file()
+}
+
+/// Gives almost all records to slot 1, so that the free place is at the end of the room.
+fn nearly_full(world: &mut World, shape: &Shape) {
+    let left = world.rng.below(4);
+    let last = MOST - left;
+    let mut boot = world.file[..32].to_vec();
+    put32(&mut boot, 4, last - shape.n);
+    put32(&mut boot, 16, 1);
+    world.patch(0, &boot);
+    let mut run = [0; 8];
+    put32(&mut run, 0, shape.n + 1);
+    put32(&mut run, 4, last);
+    world.patch(shape.l as usize, &run);
+}
+
+/// N+D one above what it may be, though the bytes are there.
+fn one_more(world: &mut World, shape: &Shape) -> Round {
+    let mut d = [0; 4];
+    put32(&mut d, 0, MOST + 1 - shape.n);
+    world.patch(4, &d);
+    world.call(Call::Open)?;
+    Ok(())
+}

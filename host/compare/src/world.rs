@@ -1,0 +1,134 @@
+//! A file, a scan and an entry's bytes, on which model and subject are asked the same.
+
+use crate::call::{Answer, Call, Expected};
+use crate::rng::Rng;
+use crate::tally::Tally;
+use face::{Begun, Job, Stepped};
+use model::About;
+
+/// What is compared with the model: something with the library's face, on memory of its own.
+pub trait Subject {
+    /// Has a new file of so many zeros.
+    fn new_file(&mut self, len: usize, rng: &mut Rng);
+    /// Has these bytes at this place of its file.
+    fn patch_file(&mut self, at: usize, bytes: &[u8]);
+    /// Has a new scan.
+    fn new_scan(&mut self, scan: &[u8], rng: &mut Rng);
+    /// Has new bytes for the entry.
+    fn new_about(&mut self, about: &About, rng: &mut Rng);
+    /// Makes the call; what the world holds is what memory should then be.
+    fn call(&mut self, call: &Call, expected: &Expected, file: &[u8], scan: &[u8], about: &About)
+    -> Result<(), String>;
+    /// Whether all of the file is as it should be, also where a call looks at a part of it alone.
+    fn whole_file(&mut self, file: &[u8]) -> Result<(), String>;
+}
+
+/// A call on which subject and model differ.
+#[derive(Debug)]
+pub struct Disagreement {
+    /// What differs, in words.
+    pub what: String,
+}
+
+/// What a theme's round answers.
+pub type Round<T = ()> = Result<T, Disagreement>;
+
+/// The model's side of the comparison, and the subject beside it.
+pub struct World<'a> {
+    subject: &'a mut dyn Subject,
+    /// The generator; a theme takes its chances from it.
+    pub rng: Rng,
+    /// The file as it should be.
+    pub file: Vec<u8>,
+    /// The scan that is lent.
+    pub scan: Vec<u8>,
+    about: About,
+    /// What was reached.
+    pub tally: Tally,
+}
+
+impl<'a> World<'a> {
+    /// An empty one.
+    pub fn new(subject: &'a mut dyn Subject, seed: u64) -> World<'a> {
+        let mut world = World {
+            subject,
+            rng: Rng::new(seed),
+            file: Vec::new(),
+            scan: Vec::new(),
+            about: [0; 54],
+            tally: Tally::default(),
+        };
+        world.set_file(Vec::new());
+        world.set_scan(Vec::new());
+        world.set_about([0; 54]);
+        world
+    }
+
+    /// Takes a new file.
+    pub fn set_file(&mut self, file: Vec<u8>) {
+        self.subject.new_file(file.len(), &mut self.rng);
+        self.subject.patch_file(0, &file);
+        self.file = file;
+    }
+
+    /// Takes a new file of zeros, which may be far larger than memory.
+    pub fn set_zeros(&mut self, len: usize) {
+        self.subject.new_file(len, &mut self.rng);
+        self.file = vec![0; len];
+    }
+
+    /// Puts bytes into the file.
+    pub fn patch(&mut self, at: usize, bytes: &[u8]) {
+        self.subject.patch_file(at, bytes);
+        self.file[at..at + bytes.len()].copy_from_slice(bytes);
+    }
+
+    /// Takes a new scan.
+    pub fn set_scan(&mut self, scan: Vec<u8>) {
+        self.subject.new_scan(&scan, &mut self.rng);
+        self.scan = scan;
+    }
+
+    /// Takes new bytes for the entry.
+    pub fn set_about(&mut self, about: About) {
+        self.subject.new_about(&about, &mut self.rng);
+        self.about = about;
+    }
+
+    /// Makes a call of both sides, and compares answers and memory.
+    pub fn call(&mut self, call: Call) -> Round<Answer> {
+        let expected = Expected::of(&call, &self.file, &self.scan, &self.about);
+        if let Some(write) = &expected.write {
+            write.apply(&mut self.file);
+        }
+        self.tally.count(&call, &expected.answer);
+        self.subject
+            .call(&call, &expected, &self.file, &self.scan, &self.about)
+            .map_err(|what| Disagreement { what: format!("{call:?}\n  {what}") })?;
+        Ok(expected.answer)
+    }
+
+    /// Compares the whole file.
+    pub fn whole_file(&mut self) -> Round {
+        self.subject.whole_file(&self.file).map_err(|what| Disagreement { what })
+    }
+
+    /// A save, keep or clear: the job where it is accepted.
+    pub fn begin(&mut self, call: Call) -> Round<Option<Job>> {
+        match self.call(call)? {
+            Answer::Begun(Begun { why, job }) => Ok((why.number == 0).then_some(job)),
+            _ => unreachable!("only a save, keep or clear begins a job"),
+        }
+    }
+
+    /// A step; the job moves on.
+    pub fn step(&mut self, job: &mut Job) -> Round<Stepped> {
+        match self.call(Call::Step { job: *job })? {
+            Answer::Stepped(stepped) => {
+                *job = stepped.job;
+                Ok(stepped)
+            }
+            _ => unreachable!("a step answers a step"),
+        }
+    }
+}

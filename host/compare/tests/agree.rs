@@ -1,0 +1,37 @@
+//! The library, and the plain stand-in, agree with the model.
+
+mod common;
+
+use compare::{Tally, seed_from_environment};
+
+/// How many calls are compared, unless `RINZO_CASES` says otherwise.
+const CASES: u64 = 500_000;
+
+/// Runs two processes at once, each with half of the cases and a seed of its own.
+fn agree(subject: &str, cases: u64) -> Tally {
+    let seed = seed_from_environment();
+    println!("{subject}: RINZO_SEED={seed}");
+    let halves = [seed, seed.wrapping_add(1)].map(|seed| common::start(&[subject], seed, cases / 2));
+    let mut all = Tally::default();
+    for half in halves {
+        let ended = half.end();
+        assert!(ended.agreed, "{subject} and the model differ:\n{}", ended.said);
+        all.add_line(&ended.tally.line());
+    }
+    println!("{subject}: {all}");
+    all
+}
+
+#[test]
+fn the_library_agrees_with_the_model() {
+    let cases = std::env::var("RINZO_CASES").map_or(CASES, |text| text.parse().expect("RINZO_CASES is a number"));
+    let tally = agree("library", cases);
+    assert!(tally.cases() >= cases.min(100_000));
+    assert!(tally.unreached().is_empty(), "no case reached: {:?}", tally.unreached());
+}
+
+#[test]
+fn the_plain_stand_in_agrees_with_the_model() {
+    let tally = agree("plain", 100_000);
+    assert!(tally.unreached().is_empty(), "no case reached: {:?}", tally.unreached());
+}

@@ -1,0 +1,9 @@
+/* What sdd.h needs of the compiler's own header; the toolchain ships none for C. */
+#ifndef STDINT_H
+#define STDINT_H
+typedef __UINT8_TYPE__ uint8_t;
+typedef __UINT16_TYPE__ uint16_t;
+typedef __UINT32_TYPE__ uint32_t;
+typedef __UINT64_TYPE__ uint64_t;
+typedef __INT16_TYPE__ int16_t;
+#endif

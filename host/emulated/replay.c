@@ -1,0 +1,268 @@
+/* replay FILE: makes every call that FILE records, on the library that is linked, and compares each
+ * whole answer and all memory with what the model answered when the file was recorded.
+ *
+ * host/compare/src/recorder.rs describes the file. Memory that is lent stands between guard pages,
+ * by turns flush against the one before it and the one after it. Numbers in the file are
+ * little-endian, as this program's are.
+ */
+#include "sdd.h"
+
+/* The C library by hand: the toolchain has no headers of it. */
+int open(const char *path, int flags, ...);
+long lseek(int fd, long at, int from);
+void *mmap(void *at, size_t len, int prot, int flags, int fd, long offset);
+int mprotect(void *at, size_t len, int prot);
+int munmap(void *at, size_t len);
+int memcmp(const void *a, const void *b, size_t len);
+void *memcpy(void *to, const void *from, size_t len);
+void *memset(void *to, int byte, size_t len);
+int printf(const char *format, ...);
+void exit(int status);
+
+enum { PROT_NONE = 0, PROT_READ = 1, PROT_READ_WRITE = 3, MAP_PRIVATE = 2, MAP_ANONYMOUS = 32 };
+enum { CALLS = 12, UNTOUCHED = 0x5a };
+/* a multiple of every page size there is, on whatever machine the emulator runs */
+#define PAGE ((size_t)65536)
+
+static const char *const NAMES[CALLS] = {"open", "list", "entry", "show", "read", "class",
+                                         "data", "blank", "save", "keep", "clear", "step"};
+
+static void stop(const char *why) {
+  printf("replay: %s\n", why);
+  exit(2);
+}
+
+/* ---- memory between guard pages */
+
+typedef struct {
+  uint8_t *base, *at;
+  size_t mapped, len;
+} lent;
+
+static int turn;
+
+static lent lend(size_t len) {
+  lent memory;
+  size_t inner = (len + PAGE - 1) / PAGE * PAGE;
+  memory.len = len;
+  memory.mapped = inner + 2 * PAGE;
+  memory.base = mmap(NULL, memory.mapped, PROT_NONE, MAP_PRIVATE | MAP_ANONYMOUS, -1, 0);
+  if (memory.base == (uint8_t *)-1) stop("no memory");
+  if (inner > 0 && mprotect(memory.base + PAGE, inner, PROT_READ_WRITE) != 0) stop("no memory");
+  memory.at = memory.base + PAGE + (turn++ % 2 == 0 ? 0 : inner - len);
+  return memory;
+}
+
+static void drop(lent memory) {
+  if (memory.base != NULL) munmap(memory.base, memory.mapped);
+}
+
+/* ---- the file of cases */
+
+static const uint8_t *next;
+
+static const uint8_t *bytes(size_t len) {
+  const uint8_t *here = next;
+  next += len;
+  return here;
+}
+
+static uint64_t number(void) {
+  uint64_t value;
+  memcpy(&value, bytes(8), 8);
+  return value;
+}
+
+static const uint8_t *map_file(const char *path) {
+  int fd = open(path, 0);
+  long len = fd < 0 ? -1 : lseek(fd, 0, 2);
+  const uint8_t *at = len <= 0 ? (uint8_t *)-1 : mmap(NULL, len, PROT_READ, MAP_PRIVATE, fd, 0);
+  if (at == (uint8_t *)-1) stop("the file of cases cannot be read");
+  return at;
+}
+
+/* ---- an answer as a row of bytes: every field in the header's order, without padding */
+
+static uint8_t row[256];
+static size_t row_len;
+
+static void put(const void *field, size_t len) {
+  memcpy(row + row_len, field, len);
+  row_len += len;
+}
+
+#define PUT(field) put(&(field), sizeof(field))
+
+static void put_job(const sdd_job *job) {
+  PUT(job->saves), PUT(job->slot), PUT(job->scan_len), PUT(job->file_len), PUT(job->first);
+  PUT(job->written), PUT(job->boot), PUT(job->about);
+}
+
+static void put_opened(sdd_opened a) {
+  PUT(a.why), PUT(a.n), PUT(a.d), PUT(a.l), PUT(a.m), PUT(a.u), PUT(a.counter), PUT(a.type);
+  PUT(a.capacity), PUT(a.room);
+}
+
+static void put_span(sdd_span a) { PUT(a.why), PUT(a.from), PUT(a.to); }
+
+static void put_begun(sdd_begun a) {
+  PUT(a.why);
+  put_job(&a.job);
+}
+
+static void put_stepped(sdd_stepped a) {
+  PUT(a.why), PUT(a.done), PUT(a.record), PUT(a.written);
+  put_job(&a.job);
+}
+
+static void put_listed(sdd_listed a) { PUT(a.why), PUT(a.scans); }
+
+/* every NaN value counts as one: its bits are compared in their own field */
+static void put_entry(sdd_entry a) {
+  uint32_t single = 0x7fc00000;
+  uint64_t twice = (uint64_t)0x7ff8 << 48;
+  if (a.single_value == a.single_value) memcpy(&single, &a.single_value, 4);
+  if (a.double_value == a.double_value) memcpy(&twice, &a.double_value, 8);
+  PUT(a.why), PUT(a.first), PUT(a.last), PUT(a.horizontal), PUT(a.vertical), PUT(a.source);
+  PUT(a.scan), PUT(a.field4), PUT(a.field8), PUT(a.lst), PUT(a.date), PUT(a.mode), PUT(a.number);
+  PUT(a.position), PUT(a.kind), PUT(single), PUT(twice);
+}
+
+/* ---- the calls */
+
+/* What is lent, and beside it the file as it should be. */
+static lent file, wanted, scan, about, out;
+
+static sdd_job read_job(void) {
+  sdd_job job;
+  job.saves = number(), job.slot = number(), job.scan_len = number();
+  job.file_len = number(), job.first = number(), job.written = number();
+  memcpy(job.boot, bytes(32), 32);
+  memcpy(job.about, bytes(54), 54);
+  return job;
+}
+
+static void lend_out(size_t len) {
+  drop(out);
+  out = lend(4 * len);
+  memset(out.at, UNTOUCHED, out.len);
+}
+
+static void list(void) {
+  size_t out_len = number();
+  lend_out(out_len);
+  put_listed(sdd_list(file.at, file.len, (uint32_t *)out.at, out_len));
+}
+
+static void blank(void) {
+  uint64_t n = number(), l = number(), m = number();
+  sdd_refusal why = sdd_blank(file.at, file.len, n, l, m);
+  PUT(why);
+}
+
+/* Makes the call and leaves its answer in the row. */
+static void make(int call) {
+  row_len = 0;
+  switch (call) {
+  case 0: put_opened(sdd_open(file.at, file.len)); break;
+  case 1: list(); break;
+  case 2: put_entry(sdd_entry_at(file.at, file.len, number())); break;
+  case 3: put_span(sdd_show(file.at, file.len, number())); break;
+  case 4: put_span(sdd_read(file.at, file.len, number())); break;
+  case 5: put_span(sdd_class(scan.at, scan.len, number())); break;
+  case 6: put_span(sdd_data(scan.at, scan.len)); break;
+  case 7: blank(); break;
+  case 8: put_begun(sdd_save(file.at, file.len, number(), scan.at, scan.len, about.at)); break;
+  case 9: put_begun(sdd_keep(file.at, file.len, scan.at, scan.len, about.at)); break;
+  case 10: put_begun(sdd_clear(file.at, file.len, number())); break;
+  case 11: put_stepped(sdd_step(file.at, file.len, scan.at, scan.len, read_job())); break;
+  default: stop("the file of cases has a call that is not known");
+  }
+}
+
+/* Whether the elements for a listing are the expected ones, and untouched after them. */
+static int out_stands(int call) {
+  size_t elements = number();
+  const uint8_t *expected = bytes(4 * elements);
+  size_t i;
+  if (call != 1) return elements == 0;
+  if (4 * elements > out.len || memcmp(out.at, expected, 4 * elements) != 0) return 0;
+  for (i = 4 * elements; i < out.len; i++)
+    if (out.at[i] != UNTOUCHED) return 0;
+  return 1;
+}
+
+/* One recorded call: whether answer and memory are as the model has them. */
+static int agrees(int call) {
+  size_t len, writes;
+  int same;
+  make(call);
+  len = number();
+  same = len == row_len && memcmp(row, bytes(len), len) == 0;
+  if (len != row_len) stop("an answer has another length than was recorded");
+  for (writes = number(); writes > 0; writes--) {
+    size_t at = number(), size = number();
+    memcpy(wanted.at + at, bytes(size), size);
+  }
+  same &= memcmp(file.at, wanted.at, wanted.len) == 0;
+  same &= out_stands(call);
+  return same;
+}
+
+static void new_file(size_t len) {
+  drop(file), drop(wanted);
+  file = lend(len), wanted = lend(len);
+}
+
+static void patch(void) {
+  size_t at = number(), len = number();
+  const uint8_t *from = bytes(len);
+  memcpy(file.at + at, from, len);
+  memcpy(wanted.at + at, from, len);
+}
+
+static void copy(lent *to, size_t len) {
+  drop(*to);
+  *to = lend(len);
+  memcpy(to->at, bytes(len), len);
+}
+
+static unsigned long made[CALLS], agreed, told;
+
+static void one_call(void) {
+  int call = *bytes(1);
+  unsigned long before = agreed;
+  if (call >= CALLS) stop("the file of cases has a call that is not known");
+  agreed += agrees(call);
+  made[call]++;
+  if (agreed == before && ++told <= 10) printf("replay: a call of sdd_%s is not as the model has it\n", NAMES[call]);
+}
+
+/* The items of the file, to its end. */
+static void replay(void) {
+  for (;;) {
+    switch (*bytes(1)) {
+    case 'F': new_file(number()); break;
+    case 'P': patch(); break;
+    case 'S': copy(&scan, number()); break;
+    case 'A': copy(&about, 54); break;
+    case 'C': one_call(); break;
+    case 'E': return;
+    default: stop("the file of cases is damaged");
+    }
+  }
+}
+
+int main(int count, char **words) {
+  unsigned long all = 0;
+  int call;
+  if (count != 2) stop("usage: replay FILE");
+  next = map_file(words[1]);
+  replay();
+  for (call = 0; call < CALLS; call++) {
+    printf("  %-6s %lu\n", NAMES[call], made[call]);
+    all += made[call];
+  }
+  printf("%lu of %lu calls agreed\n", agreed, all);
+  return agreed == all && all > 0 ? 0 : 1;
+}

@@ -1,0 +1,13 @@
+//! The C face of the library, as `include/sdd.h` declares it: its structs of
+//! numbers, and a table of its calls.
+//!
+//! A program uses the crate `sdd` and never sees these. They stand in a crate
+//! of their own because three parties speak them: the safe crate, the plain
+//! stand-in, and the comparison, which holds any [`Calls`] against the model.
+
+mod answers;
+mod calls;
+mod layout;
+
+pub use answers::{Begun, Entry, Job, Listed, Opened, Refusal, Span, Stepped};
+pub use calls::Calls;

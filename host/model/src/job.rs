@@ -1,0 +1,230 @@
+//! "A save, record by record": blank, save, keep, clear and step.
+
+use crate::bytes::{Write, word_bytes};
+use crate::index::{Run, listed, open};
+use crate::look::occupied;
+use crate::refusal::{Answer, refuse};
+use crate::scan::{Purpose, rules};
+use crate::sizes::{Sizes, bootstrap, room};
+
+/// An entry's bytes 8 to 61.
+pub type About = [u8; 54];
+
+/// A save (also a keep) or a clear under way.
+#[derive(Clone, Copy, Debug, PartialEq, Eq)]
+pub struct Job {
+    /// 1 a save, 0 a clear.
+    pub saves: u64,
+    /// The slot saved to, or cleared.
+    pub slot: u64,
+    /// The scan's length.
+    pub scan_len: u64,
+    /// The file's length.
+    pub file_len: u64,
+    /// The first of the scan's records, r.
+    pub first: u64,
+    /// Records written so far.
+    pub written: u64,
+    /// The first 32 bytes as the job was begun on or last wrote them.
+    pub boot: [u8; 32],
+    /// The entry's bytes 8 to 61.
+    pub about: About,
+}
+
+/// What a step did.
+#[derive(Clone, Copy, Debug, PartialEq, Eq)]
+pub enum Done {
+    /// It wrote this record.
+    Wrote(u64),
+    /// It confirmed a save.
+    Saved,
+    /// It confirmed a clear.
+    Cleared,
+}
+
+/// An accepted step: what it did, the change it makes, and the job after it.
+#[derive(Clone, Debug, PartialEq, Eq)]
+pub struct Stepped {
+    /// What it did.
+    pub done: Done,
+    /// The one change of memory, if any.
+    pub write: Option<Write>,
+    /// The job handed back.
+    pub job: Job,
+}
+
+/// "Blank writes N records, D = U = counter = type = 0, zeros after word 8".
+pub fn blank(file_len: u64, n: u64, l: u64, m: u64) -> Answer<Write> {
+    let sizes = Sizes { n, d: 0, l, m, u: 0, counter: 0, kind: 0 };
+    if !sizes.shape_in_range() || n * l > file_len {
+        return refuse(16);
+    }
+    let mut bytes = vec![0; (n * l) as usize];
+    bytes[..32].copy_from_slice(&boot_bytes(&sizes));
+    Ok(Write { at: 0, bytes })
+}
+
+/// The eight words of a bootstrap.
+fn boot_bytes(sizes: &Sizes) -> [u8; 32] {
+    let words = [sizes.n, sizes.d, sizes.l, sizes.m, sizes.u, sizes.counter, sizes.kind, 1];
+    words.map(word_bytes).concat().try_into().unwrap()
+}
+
+/// "Let k be S / L rounded up."
+fn records_of(scan_len: u64, sizes: &Sizes) -> u64 {
+    scan_len.div_ceil(sizes.l)
+}
+
+/// "the lowest record r >= N+1 where r to r+k-1 lie within the room and belong to no listed scan".
+fn lowest_place(file: &[u8], sizes: &Sizes, k: u64) -> Option<u64> {
+    let room = room(file.len() as u64, sizes);
+    let mut free = vec![true; room as usize + 1];
+    for (_, run) in listed(file, sizes) {
+        (run.first..=run.last).for_each(|record| free[record as usize] = false);
+    }
+    (sizes.n + 1..=room).find(|r| (*r..r + k).all(|record| record <= room && free[record as usize]))
+}
+
+/// Begins a save to a slot.
+pub fn save(file: &[u8], slot: u64, scan: &[u8], about: &About) -> Answer<Job> {
+    let sizes = open(file)?;
+    if !sizes.has_slot(slot) {
+        return refuse(9);
+    }
+    begin_save(file, &sizes, slot, scan, about)
+}
+
+/// Begins a save to the lowest empty slot.
+pub fn keep(file: &[u8], scan: &[u8], about: &About) -> Answer<Job> {
+    let sizes = open(file)?;
+    match (1..=sizes.capacity()).find(|slot| Run::of(file, &sizes, *slot).is_empty()) {
+        None => refuse(12),
+        Some(slot) => begin_save(file, &sizes, slot, scan, about),
+    }
+}
+
+/// What save and keep have in common: refusals 11 and 13, and the job.
+fn begin_save(file: &[u8], sizes: &Sizes, slot: u64, scan: &[u8], about: &About) -> Answer<Job> {
+    rules(scan, Purpose::Saving)?;
+    let scan_len = scan.len() as u64;
+    let Some(first) = lowest_place(file, sizes, records_of(scan_len, sizes)) else {
+        return refuse(13);
+    };
+    Ok(Job { saves: 1, slot, scan_len, first, about: *about, ..job_on(file) })
+}
+
+/// Begins a clear.
+pub fn clear(file: &[u8], slot: u64) -> Answer<Job> {
+    occupied(file, slot)?;
+    Ok(Job { slot, ..job_on(file) })
+}
+
+/// A job on this file with everything else zero.
+fn job_on(file: &[u8]) -> Job {
+    let boot = file[..32].try_into().unwrap();
+    Job { saves: 0, slot: 0, scan_len: 0, file_len: file.len() as u64, first: 0, written: 0, boot, about: [0; 54] }
+}
+
+/// The sizes where job, file and scan agree; none of the sentence "A step checks 14 first" applies then.
+fn agree(file: &[u8], scan: &[u8], job: &Job) -> Option<Sizes> {
+    if scan.len() as u64 != job.scan_len || file.len() as u64 != job.file_len {
+        return None;
+    }
+    let sizes = bootstrap(file).ok()?;
+    if file[..32] != job.boot {
+        return None;
+    }
+    if !sizes.has_slot(job.slot) || job.written > writes_of(&sizes, job) {
+        return None;
+    }
+    match job.saves {
+        0 => Some(sizes),
+        1 => (!scan.is_empty() && data_records_in_room(&sizes, job)).then_some(sizes),
+        _ => None,
+    }
+}
+
+/// How many records the job has to write: k data records, record 1 and the index record;
+/// of a clear the last two.
+fn writes_of(sizes: &Sizes, job: &Job) -> u64 {
+    data_records(sizes, job) + 2
+}
+
+/// k, or 0 for a clear.
+fn data_records(sizes: &Sizes, job: &Job) -> u64 {
+    if job.saves == 1 { records_of(job.scan_len, sizes) } else { 0 }
+}
+
+/// Whether all of r to r+k-1 lie in N+1 to the room.
+fn data_records_in_room(sizes: &Sizes, job: &Job) -> bool {
+    let room = room(job.file_len, sizes);
+    sizes.n < job.first && job.first <= room && job.first - 1 + data_records(sizes, job) <= room
+}
+
+/// One step of a job.
+pub fn step(file: &[u8], scan: &[u8], job: &Job) -> Answer<Stepped> {
+    let Some(sizes) = agree(file, scan, job) else {
+        return refuse(14);
+    };
+    let k = data_records(&sizes, job);
+    if job.written == k + 2 {
+        return confirm(file, scan, job);
+    }
+    let (record, write, boot) = if job.written < k {
+        let record = job.first + job.written;
+        (record, Write { at: sizes.record_at(record), bytes: padded(scan, &sizes, job.written) }, job.boot)
+    } else if job.written == k {
+        let boot = boot_bytes(&renewed(&sizes, job));
+        (1, Write { at: 0, bytes: boot.to_vec() }, boot)
+    } else {
+        (sizes.home_record(job.slot), Write { at: sizes.home(job.slot), bytes: entry_bytes(&sizes, job) }, job.boot)
+    };
+    let job = Job { written: job.written + 1, boot, ..*job };
+    Ok(Stepped { done: Done::Wrote(record), write: Some(write), job })
+}
+
+/// The bytes of the scan's record number i, counted from 0, the last padded with zeros.
+fn padded(scan: &[u8], sizes: &Sizes, i: u64) -> Vec<u8> {
+    let l = sizes.l as usize;
+    let from = i as usize * l;
+    let mut record = scan[from..scan.len().min(from + l)].to_vec();
+    record.resize(l, 0);
+    record
+}
+
+/// "D = max(D, r+k-1-N), U = max(U, slot) and the counter one higher"; of a clear the counter only.
+fn renewed(sizes: &Sizes, job: &Job) -> Sizes {
+    let counter = (sizes.counter + 1) % (1 << 32);
+    if job.saves == 0 {
+        return Sizes { counter, ..*sizes };
+    }
+    let last = job.first + data_records(sizes, job) - 1;
+    Sizes { d: sizes.d.max(last - sizes.n), u: sizes.u.max(job.slot), counter, ..*sizes }
+}
+
+/// The entry's M bytes as the job gives them: first, last, about and zeros; of a clear M zeros.
+fn entry_bytes(sizes: &Sizes, job: &Job) -> Vec<u8> {
+    let mut entry = vec![0; sizes.m as usize];
+    if job.saves == 1 {
+        let last = job.first + data_records(sizes, job) - 1;
+        entry[0..4].copy_from_slice(&word_bytes(job.first));
+        entry[4..8].copy_from_slice(&word_bytes(last));
+        entry[8..62].copy_from_slice(&job.about);
+    }
+    entry
+}
+
+/// The step after the last write: judges the file, then compares.
+fn confirm(file: &[u8], scan: &[u8], job: &Job) -> Answer<Stepped> {
+    let sizes = open(file)?;
+    let entry_stands = sizes.entry(file, job.slot) == entry_bytes(&sizes, job);
+    let records_stand = (0..data_records(&sizes, job)).all(|i| {
+        let at = sizes.record_at(job.first + i);
+        file[at..at + sizes.l as usize] == padded(scan, &sizes, i)
+    });
+    if !entry_stands || !records_stand {
+        return refuse(15);
+    }
+    let done = if job.saves == 1 { Done::Saved } else { Done::Cleared };
+    Ok(Stepped { done, write: None, job: *job })
+}

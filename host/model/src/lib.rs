@@ -1,0 +1,24 @@
+//! An independent model of the paper (01), in plain Rust.
+//!
+//! It was written from the paper alone, to be held beside it sentence by
+//! sentence, and it shares nothing with the library or with the face. It is
+//! slow on purpose: where the paper says "lowest", it tries from the lowest.
+//!
+//! A call that would change memory answers the [`Write`] that it would make,
+//! and changes nothing, so that the caller decides what to do with it.
+
+mod bytes;
+mod index;
+mod job;
+mod look;
+mod refusal;
+mod scan;
+mod sizes;
+
+pub use bytes::Write;
+pub use index::{Run, listed, open};
+pub use job::{About, Done, Job, Stepped, blank, clear, keep, save, step};
+pub use look::{Entry, Kind, class, data, entry, list, read, show};
+pub use refusal::{Answer, Refusal};
+pub use scan::{Purpose, Shape, rules, whole};
+pub use sizes::{Sizes, bootstrap, room};

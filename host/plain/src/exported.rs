@@ -1,0 +1,146 @@
+//! The calls with the C face: pointers to slices, answers to structs of numbers.
+
+use crate::boot::Answer;
+use crate::{index, look, store};
+use face::{Begun, Calls, Entry, Job, Listed, Opened, Refusal, Span, Stepped};
+use std::slice::{from_raw_parts, from_raw_parts_mut};
+
+/// The table of one copy.
+pub fn calls<const X: u32>() -> Calls {
+    Calls {
+        open: open::<X>,
+        list: list::<X>,
+        entry_at: entry_at::<X>,
+        show: show::<X>,
+        read: read::<X>,
+        class: class::<X>,
+        data: data::<X>,
+        blank: blank::<X>,
+        save: save::<X>,
+        keep: keep::<X>,
+        clear: clear::<X>,
+        step: step::<X>,
+    }
+}
+
+/// # Safety
+/// `len` readable elements at `at`, or `len` 0.
+unsafe fn lent<'a>(at: *const u8, len: usize) -> &'a [u8] {
+    if len == 0 { &[] } else { unsafe { from_raw_parts(at, len) } }
+}
+
+/// # Safety
+/// `len` writable elements at `at` that nothing else refers to, or `len` 0.
+unsafe fn lent_mut<'a, T>(at: *mut T, len: usize) -> &'a mut [T] {
+    if len == 0 { &mut [] } else { unsafe { from_raw_parts_mut(at, len) } }
+}
+
+fn span(answer: Answer<(u64, u64)>) -> Span {
+    match answer {
+        Ok((from, to)) => Span { why: Refusal::NONE, from, to },
+        Err(why) => Span { why, from: 0, to: 0 },
+    }
+}
+
+fn begun(answer: Answer<Job>) -> Begun {
+    match answer {
+        Ok(job) => Begun { why: Refusal::NONE, job },
+        Err(why) => Begun { why, job: Job::ZEROS },
+    }
+}
+
+unsafe extern "C" fn open<const X: u32>(file: *const u8, file_len: usize) -> Opened {
+    match index::judge::<X>(unsafe { lent(file, file_len) }) {
+        Err(why) => Opened { why, ..Opened::ZEROS },
+        Ok(judged) => {
+            let z = judged.sizes;
+            let (capacity, room) = (z.capacity(), z.room::<X>(file_len as u64));
+            Opened {
+                why: Refusal::NONE,
+                n: z.n,
+                d: z.d,
+                l: z.l,
+                m: z.m,
+                u: z.u,
+                counter: z.counter,
+                kind: z.kind,
+                capacity,
+                room,
+            }
+        }
+    }
+}
+
+unsafe extern "C" fn list<const X: u32>(file: *const u8, file_len: usize, out: *mut u32, out_len: usize) -> Listed {
+    match look::list::<X>(unsafe { lent(file, file_len) }, unsafe { lent_mut(out, out_len) }) {
+        Ok(scans) => Listed { why: Refusal::NONE, scans },
+        Err(why) => Listed { why, scans: 0 },
+    }
+}
+
+unsafe extern "C" fn entry_at<const X: u32>(file: *const u8, file_len: usize, slot: u64) -> Entry {
+    match look::entry::<X>(unsafe { lent(file, file_len) }, slot) {
+        Ok(entry) => entry,
+        Err(why) => Entry { why, ..Entry::ZEROS },
+    }
+}
+
+unsafe extern "C" fn show<const X: u32>(file: *const u8, file_len: usize, slot: u64) -> Span {
+    span(look::show::<X>(unsafe { lent(file, file_len) }, slot))
+}
+
+unsafe extern "C" fn read<const X: u32>(file: *const u8, file_len: usize, slot: u64) -> Span {
+    span(look::read::<X>(unsafe { lent(file, file_len) }, slot))
+}
+
+unsafe extern "C" fn class<const X: u32>(run: *const u8, run_len: usize, number: u64) -> Span {
+    span(look::class::<X>(unsafe { lent(run, run_len) }, number))
+}
+
+unsafe extern "C" fn data<const X: u32>(run: *const u8, run_len: usize) -> Span {
+    span(look::data::<X>(unsafe { lent(run, run_len) }))
+}
+
+unsafe extern "C" fn blank<const X: u32>(file: *mut u8, file_len: usize, n: u64, l: u64, m: u64) -> Refusal {
+    match store::blank::<X>(unsafe { lent_mut(file, file_len) }, n, l, m) {
+        Ok(()) => Refusal::NONE,
+        Err(why) => why,
+    }
+}
+
+unsafe extern "C" fn save<const X: u32>(
+    file: *const u8,
+    file_len: usize,
+    slot: u64,
+    scan: *const u8,
+    scan_len: usize,
+    about: *const u8,
+) -> Begun {
+    let about = unsafe { &*about.cast() };
+    begun(store::save::<X>(unsafe { lent(file, file_len) }, slot, unsafe { lent(scan, scan_len) }, about))
+}
+
+unsafe extern "C" fn keep<const X: u32>(
+    file: *const u8,
+    file_len: usize,
+    scan: *const u8,
+    scan_len: usize,
+    about: *const u8,
+) -> Begun {
+    let about = unsafe { &*about.cast() };
+    begun(store::keep::<X>(unsafe { lent(file, file_len) }, unsafe { lent(scan, scan_len) }, about))
+}
+
+unsafe extern "C" fn clear<const X: u32>(file: *const u8, file_len: usize, slot: u64) -> Begun {
+    begun(store::clear::<X>(unsafe { lent(file, file_len) }, slot))
+}
+
+unsafe extern "C" fn step<const X: u32>(
+    file: *mut u8,
+    file_len: usize,
+    scan: *const u8,
+    scan_len: usize,
+    job: Job,
+) -> Stepped {
+    store::step::<X>(unsafe { lent_mut(file, file_len) }, unsafe { lent(scan, scan_len) }, &job)
+}

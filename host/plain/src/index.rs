@@ -1,0 +1,105 @@
+//! The index judged in one pass: refusals 6 to 8.
+
+use crate::bits::Bits;
+use crate::boot::{Answer, Sizes, bootstrap, refuse};
+use crate::bytes::be64;
+use crate::wrong::or;
+
+/// First and last record of an entry.
+#[derive(Clone, Copy)]
+pub struct Run {
+    pub first: u64,
+    pub last: u64,
+}
+
+impl Run {
+    pub fn at(file: &[u8], sizes: &Sizes, slot: u64) -> Run {
+        let both = be64(file, sizes.home(slot));
+        Run { first: both >> 32, last: both & 0xffff_ffff }
+    }
+
+    pub fn is_empty<const X: u32>(&self) -> bool {
+        self.first == 0 && (self.last == 0 || X == 19)
+    }
+
+    fn in_range<const X: u32>(&self, sizes: &Sizes) -> bool {
+        sizes.n + or::<X, _>(20, 1, 0) <= self.first
+            && (self.first <= self.last || X == 21)
+            && self.last <= sizes.n + sizes.d + or::<X, _>(22, 0, 1)
+    }
+}
+
+/// A file that opens: its sizes, and the records its scans take. There is no mark where each scan lies past those of
+/// the smaller slots, since then nothing has to be looked up.
+pub struct Judged {
+    pub sizes: Sizes,
+    pub taken: Option<Bits>,
+}
+
+/// The record that a run is held against others by. One that is too high by one misses a single shared record.
+fn foremost<const X: u32>(run: &Run) -> u64 {
+    run.first + or::<X, _>(24, 0, u64::from(run.first < run.last))
+}
+
+/// How many slots, from the first on, are good and lie past the smaller ones; at most U.
+fn rising<const X: u32>(file: &[u8], sizes: &Sizes) -> u64 {
+    let mut top = 0;
+    for slot in 1..=sizes.u {
+        let run = Run::at(file, sizes, slot);
+        if run.is_empty::<X>() {
+            continue;
+        }
+        if foremost::<X>(&run) <= top || !run.in_range::<X>(sizes) {
+            return slot - 1;
+        }
+        top = run.last;
+    }
+    sizes.u
+}
+
+/// Refusal 6, or the lowest slot that shares a record with a smaller one, by marks for the records.
+fn marked<const X: u32>(file: &[u8], sizes: &Sizes, rising: u64) -> Answer<(Bits, u64)> {
+    let mut taken = Bits::new(sizes.n + sizes.d + or::<X, _>(22, 0, 1));
+    let mut shared = 0;
+    for slot in 1..=sizes.u {
+        let run = Run::at(file, sizes, slot);
+        if run.is_empty::<X>() || (X == 21 && run.first > run.last) {
+            continue;
+        }
+        if slot > rising && !run.in_range::<X>(sizes) {
+            return refuse(6, slot as u32 - or::<X, _>(23, 0, 1));
+        }
+        if !taken.take(foremost::<X>(&run), run.last) && (shared == 0 || X == 25) {
+            shared = slot;
+        }
+    }
+    Ok((taken, shared))
+}
+
+pub fn judge<const X: u32>(file: &[u8]) -> Answer<Judged> {
+    let sizes = bootstrap::<X>(file)?;
+    let rising = rising::<X>(file, &sizes);
+    let mut taken = None;
+    let mut shared = 0;
+    if rising < sizes.u {
+        let found = marked::<X>(file, &sizes, rising)?;
+        (taken, shared) = (Some(found.0), found.1);
+    }
+    if X == 26 && shared != 0 {
+        return refuse(8, shared as u32);
+    }
+    for slot in sizes.u + or::<X, _>(27, 1, 2)..=sizes.capacity() {
+        if !Run::at(file, &sizes, slot).is_empty::<X>() {
+            return refuse(7, slot as u32);
+        }
+    }
+    if shared != 0 {
+        return refuse(8, shared as u32);
+    }
+    Ok(Judged { sizes, taken })
+}
+
+/// The scans of a file that opens: slot and run, in slot order.
+pub fn listed<'a, const X: u32>(file: &'a [u8], sizes: &'a Sizes) -> impl Iterator<Item = (u64, Run)> + 'a {
+    (1..=sizes.u).map(|slot| (slot, Run::at(file, sizes, slot))).filter(|(_, run)| !run.is_empty::<X>())
+}

@@ -1,0 +1,99 @@
+//! List, entry, show, read, class and data.
+
+use crate::boot::{Answer, Sizes, refuse};
+use crate::bytes::{be16, be32, be64};
+use crate::index::{Run, judge, listed};
+use crate::scan::rules;
+use crate::wrong::or;
+use face::{Entry, Refusal};
+
+/// Fills `out` with slot, first and last of each scan; answers how many scans. They are counted first only where `out`
+/// may be too short for them.
+pub fn list<const X: u32>(file: &[u8], out: &mut [u32]) -> Answer<u64> {
+    let sizes = judge::<X>(file)?.sizes;
+    if (out.len() as u64) < 3 * sizes.u + or::<X, _>(48, 0, 1) {
+        let scans = listed::<X>(file, &sizes).count();
+        if out.len() < 3 * scans + or::<X, _>(48, 0, 1) {
+            return refuse(17, 0);
+        }
+    }
+    let mut scans = 0;
+    for (row, (slot, run)) in out.chunks_exact_mut(3).zip(listed::<X>(file, &sizes)) {
+        row.copy_from_slice(&[slot as u32, run.first as u32, run.last as u32]);
+        scans += 1;
+    }
+    if X == 49 && out.len() > 3 * scans {
+        out[3 * scans] = 0;
+    }
+    Ok(scans as u64)
+}
+
+/// The run of a slot that has a scan: refusals 1 to 10.
+pub fn occupied<const X: u32>(file: &[u8], slot: u64) -> Answer<(Sizes, Run)> {
+    let sizes = judge::<X>(file)?.sizes;
+    if !sizes.has::<X>(slot) {
+        return refuse(9, 0);
+    }
+    let run = Run::at(file, &sizes, slot);
+    if run.is_empty::<X>() {
+        return refuse(10, 0);
+    }
+    Ok((sizes, run))
+}
+
+fn kind<const X: u32>(mode: i16) -> u16 {
+    if (256..=or::<X, _>(50, 304, 303)).contains(&mode) {
+        1
+    } else if (512..=or::<X, _>(51, 560, 561)).contains(&mode) {
+        2
+    } else {
+        0
+    }
+}
+
+pub fn entry<const X: u32>(file: &[u8], slot: u64) -> Answer<Entry> {
+    let (sizes, run) = occupied::<X>(file, slot)?;
+    let bytes = &file[sizes.home(slot)..][..64];
+    let mode = be16(bytes, 56);
+    let (field4, field8) = (be32(bytes, 36), be64(bytes, 40));
+    Ok(Entry {
+        why: Refusal::NONE,
+        first: run.first as u32,
+        last: run.last as u32,
+        horizontal: be32(bytes, 8),
+        vertical: be32(bytes, 12),
+        source: bytes[16..32].try_into().unwrap(),
+        scan: be32(bytes, 32),
+        field4,
+        field8,
+        lst: be32(bytes, 48),
+        date: be32(bytes, 52),
+        mode,
+        number: be16(bytes, 58),
+        position: be16(bytes, 60),
+        kind: kind::<X>(mode),
+        single_value: f32::from_bits(field4 & or::<X, _>(52, u32::MAX, 0xff80_0000 | (field4 & 0x007f_fffe))),
+        double_value: f64::from_bits(field8),
+    })
+}
+
+pub fn show<const X: u32>(file: &[u8], slot: u64) -> Answer<(u64, u64)> {
+    let (sizes, run) = occupied::<X>(file, slot)?;
+    Ok(((run.first - 1) * sizes.l, run.last * sizes.l))
+}
+
+pub fn read<const X: u32>(file: &[u8], slot: u64) -> Answer<(u64, u64)> {
+    let (from, to) = show::<X>(file, slot)?;
+    let shape = rules::<X>(&file[from as usize..to as usize], false)?;
+    Ok((from, from + shape.head + or::<X, _>(53, shape.data, shape.data.next_multiple_of(8))))
+}
+
+pub fn class<const X: u32>(run: &[u8], number: u64) -> Answer<(u64, u64)> {
+    let shape = rules::<X>(run, false)?;
+    Ok(shape.class::<X>(run, number).unwrap_or((0, or::<X, _>(54, 0, shape.head))))
+}
+
+pub fn data<const X: u32>(run: &[u8]) -> Answer<(u64, u64)> {
+    let shape = rules::<X>(run, false)?;
+    Ok((shape.head, shape.head + shape.data))
+}

@@ -1,0 +1,241 @@
+//! Blank, save, keep, clear and step.
+
+use crate::boot::{Answer, Sizes, bootstrap, refuse};
+use crate::bytes::put32;
+use crate::index::{Judged, Run, judge, listed};
+use crate::look::occupied;
+use crate::scan::rules;
+use crate::wrong::or;
+use face::{Job, Refusal, Stepped};
+
+pub fn blank<const X: u32>(file: &mut [u8], n: u64, l: u64, m: u64) -> Answer<()> {
+    let sizes = Sizes { n, d: 0, l, m, u: 0, counter: 0, kind: 0 };
+    if !sizes.shape_in_range::<X>() || n * l + or::<X, _>(55, 0, 1) > file.len() as u64 {
+        return refuse(16, 0);
+    }
+    let end = match X {
+        56 => l as usize,
+        57 => file.len(),
+        _ => (n * l) as usize,
+    };
+    file[..end].fill(0);
+    for (i, number) in [n, 0, l, m, 0, 0, 0, 1].into_iter().enumerate() {
+        put32(file, 4 * i, number);
+    }
+    Ok(())
+}
+
+fn records<const X: u32>(scan_len: u64, l: u64) -> u64 {
+    or::<X, _>(58, scan_len.div_ceil(l), scan_len / l + 1)
+}
+
+fn job_on(file: &[u8], slot: u64) -> Job {
+    Job { slot, file_len: file.len() as u64, boot: file[..32].try_into().unwrap(), ..Job::ZEROS }
+}
+
+pub fn save<const X: u32>(file: &[u8], slot: u64, scan: &[u8], about: &[u8; 54]) -> Answer<Job> {
+    let judged = judge::<X>(file)?;
+    if X == 59 {
+        rules::<X>(scan, true)?;
+    }
+    if !judged.sizes.has::<X>(slot) {
+        return refuse(9, 0);
+    }
+    begin::<X>(file, &judged, slot, scan, about)
+}
+
+pub fn keep<const X: u32>(file: &[u8], scan: &[u8], about: &[u8; 54]) -> Answer<Job> {
+    let judged = judge::<X>(file)?;
+    if X == 60 {
+        rules::<X>(scan, true)?;
+    }
+    let sizes = &judged.sizes;
+    let from = or::<X, _>(61, 1, sizes.u + 1);
+    let empty = (from..=sizes.capacity()).find(|slot| Run::at(file, sizes, *slot).is_empty::<X>());
+    match empty {
+        Some(slot) => begin::<X>(file, &judged, slot, scan, about),
+        None => refuse(12, 0),
+    }
+}
+
+fn begin<const X: u32>(file: &[u8], judged: &Judged, slot: u64, scan: &[u8], about: &[u8; 54]) -> Answer<Job> {
+    rules::<X>(scan, true)?;
+    let scan_len = scan.len() as u64;
+    match place::<X>(file, judged, slot, records::<X>(scan_len, judged.sizes.l)) {
+        Some(first) => Ok(Job { saves: 1, scan_len, first, about: *about, ..job_on(file, slot) }),
+        None => refuse(13, 0),
+    }
+}
+
+/// The lowest place with k free records.
+fn place<const X: u32>(file: &[u8], judged: &Judged, slot: u64, k: u64) -> Option<u64> {
+    let sizes = &judged.sizes;
+    let room = sizes.room::<X>(file.len() as u64) + or::<X, _>(62, 0, 1);
+    let old = Run::at(file, sizes, slot);
+    if X == 63 && !old.is_empty::<X>() && old.last - old.first + 1 >= k {
+        return Some(old.first);
+    }
+    let from = sizes.n + 1 + or::<X, _>(64, 0, sizes.d);
+    let wanted = k + or::<X, _>(65, 0, u64::from(k > 1));
+    match &judged.taken {
+        Some(taken) => taken.lowest_gap(from, room, wanted),
+        None => lowest_between::<X>(file, sizes, from, room, wanted),
+    }
+}
+
+/// The lowest place with so many free records from `from` on, where each scan lies past those of the smaller slots.
+fn lowest_between<const X: u32>(file: &[u8], sizes: &Sizes, from: u64, room: u64, wanted: u64) -> Option<u64> {
+    let mut at = from;
+    for (_, run) in listed::<X>(file, sizes) {
+        if at + wanted <= run.first {
+            break;
+        }
+        at = at.max(run.last + 1);
+    }
+    (at + wanted <= room + 1).then_some(at)
+}
+
+pub fn clear<const X: u32>(file: &[u8], slot: u64) -> Answer<Job> {
+    let (_, run) = occupied::<X>(file, slot)?;
+    Ok(Job { first: or::<X, _>(66, 0, run.first), ..job_on(file, slot) })
+}
+
+/// The sizes where job, file and scan agree.
+fn agree<const X: u32>(file: &[u8], scan: &[u8], job: &Job) -> Option<Sizes> {
+    if scan.len() as u64 != job.scan_len || (file.len() as u64 != job.file_len && X != 67) {
+        return None;
+    }
+    let sizes = bootstrap::<X>(file).ok()?;
+    let compared = or::<X, _>(68, 32, 20);
+    if file[..compared] != job.boot[..compared] || job.saves > or::<X, _>(69, 1, 2) {
+        return None;
+    }
+    if job.slot < 1 || job.slot > sizes.capacity() + or::<X, _>(70, 0, 1) {
+        return None;
+    }
+    if job.saves != 0 {
+        let room = sizes.room::<X>(job.file_len);
+        let k = data_records::<X>(&sizes, job);
+        let low = sizes.n + or::<X, _>(71, 1, 0);
+        if (k == 0 && X != 72) || job.first < low || job.first > room || job.first - 1 + k > room + or::<X, _>(73, 0, 1)
+        {
+            return None;
+        }
+    }
+    (job.written <= data_records::<X>(&sizes, job) + or::<X, _>(74, 2, 3)).then_some(sizes)
+}
+
+fn data_records<const X: u32>(sizes: &Sizes, job: &Job) -> u64 {
+    if job.saves != 0 { records::<X>(job.scan_len, sizes.l) } else { 0 }
+}
+
+/// The part of the scan in its record i, counted from 0.
+fn piece(scan: &[u8], l: usize, i: usize) -> &[u8] {
+    &scan[i * l..scan.len().min(i * l + l)]
+}
+
+pub fn step<const X: u32>(file: &mut [u8], scan: &[u8], job: &Job) -> Stepped {
+    let refused = |why| Stepped { why, done: 0, record: 0, written: 0, job: *job };
+    let Some(sizes) = agree::<X>(file, scan, job) else {
+        return refused(Refusal { number: 14, value: 0 });
+    };
+    let k = data_records::<X>(&sizes, job);
+    if job.written >= k + 2 {
+        return match confirm::<X>(file, scan, job, k) {
+            Ok(()) => Stepped {
+                why: Refusal::NONE,
+                done: if job.saves != 0 { 1 } else { 2 },
+                record: 0,
+                written: job.written,
+                job: *job,
+            },
+            Err(why) => refused(why),
+        };
+    }
+    let mut job = *job;
+    let boot_turn = or::<X, _>(75, k, k + 1);
+    let record = if job.written < k {
+        put_data::<X>(file, &sizes, scan, &job)
+    } else if job.written == boot_turn {
+        put_boot::<X>(file, &sizes, &job, k);
+        if X != 76 {
+            job.boot.copy_from_slice(&file[..32]);
+        }
+        1
+    } else {
+        put_entry::<X>(file, &sizes, &job, k);
+        sizes.home_record::<X>(job.slot)
+    };
+    job.written += 1;
+    Stepped { why: Refusal::NONE, done: 0, record, written: job.written, job }
+}
+
+fn put_data<const X: u32>(file: &mut [u8], sizes: &Sizes, scan: &[u8], job: &Job) -> u64 {
+    let (record, l) = (job.first + job.written, sizes.l as usize);
+    let place = &mut file[(record as usize - 1) * l..][..l];
+    let piece = piece(scan, l, job.written as usize);
+    place[..piece.len()].copy_from_slice(piece);
+    if X != 77 {
+        place[piece.len()..].fill(0);
+    }
+    record
+}
+
+fn put_boot<const X: u32>(file: &mut [u8], sizes: &Sizes, job: &Job, k: u64) {
+    if job.saves != 0 {
+        let reached = job.first + k - 1 - sizes.n;
+        put32(file, 4, or::<X, _>(78, sizes.d.max(reached), reached));
+        put32(file, 16, or::<X, _>(79, sizes.u.max(job.slot), job.slot));
+    }
+    let most = u64::from(u32::MAX);
+    let counter = or::<X, _>(80, (sizes.counter + 1) & most, (sizes.counter + 1).min(most));
+    if job.saves != 0 || X != 81 {
+        put32(file, 20, counter);
+    }
+}
+
+/// The first 62 bytes of the entry that the job gives; the rest of its M bytes is zeros.
+fn entry_bytes<const X: u32>(job: &Job, k: u64) -> [u8; 62] {
+    let mut entry = [0; 62];
+    if job.saves != 0 {
+        put32(&mut entry, 0, job.first);
+        put32(&mut entry, 4, job.first + k - 1);
+        entry[8..].copy_from_slice(&job.about);
+    }
+    if X == 82 && job.saves == 0 {
+        entry[8..].copy_from_slice(&job.about);
+    }
+    entry
+}
+
+fn put_entry<const X: u32>(file: &mut [u8], sizes: &Sizes, job: &Job, k: u64) {
+    let entry = &mut file[sizes.home(job.slot)..][..sizes.m as usize];
+    if X == 83 && job.saves == 0 {
+        entry[..8].fill(0);
+        return;
+    }
+    let (told, rest) = entry.split_at_mut(62);
+    told.copy_from_slice(&entry_bytes::<X>(job, k));
+    if X != 84 {
+        rest.fill(0);
+    }
+}
+
+fn is_zero(bytes: &[u8]) -> bool {
+    bytes.iter().all(|byte| *byte == 0)
+}
+
+fn confirm<const X: u32>(file: &[u8], scan: &[u8], job: &Job, k: u64) -> Answer<()> {
+    if X == 85 {
+        return Ok(());
+    }
+    let sizes = if X == 86 { bootstrap::<X>(file)? } else { judge::<X>(file)?.sizes };
+    let (told, rest) = file[sizes.home(job.slot)..][..sizes.m as usize].split_at(62);
+    let entry_stands = told == entry_bytes::<X>(job, k) && (is_zero(rest) || X == 87);
+    let records_stand = k == 0 || {
+        let records = &file[((job.first - 1) * sizes.l) as usize..][..(k * sizes.l) as usize];
+        let (data, padding) = records.split_at(scan.len());
+        data == scan && (is_zero(padding) || X == 88)
+    };
+    if entry_stands && records_stand { Ok(()) } else { refuse(15, 0) }
+}

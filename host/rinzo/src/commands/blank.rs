@@ -1,0 +1,104 @@
+//! `rinzo blank`: makes a file without scans.
+
+use crate::args::Args;
+use crate::device::read_back;
+use crate::disk::{Disk, sync_folder_of, uninterrupted};
+use crate::failure::Failure;
+use crate::json::Json;
+use crate::out::Out;
+use crate::sys;
+use std::io::{self, ErrorKind};
+use std::os::unix::fs::FileExt;
+use std::path::Path;
+
+/// What a blank file is to be.
+pub struct Wanted {
+    pub n: u64,
+    pub l: u64,
+    pub m: u64,
+    pub room: u64,
+    pub force: bool,
+}
+
+pub fn run(args: &Args, out: &Out) -> Result<(), Failure> {
+    let wanted = Wanted {
+        n: args.count("n")?.unwrap_or(129),
+        l: args.count("l")?.unwrap_or(512),
+        m: args.count("m")?.unwrap_or(64),
+        room: args.count("room")?.unwrap_or(8_192),
+        force: args.has("force"),
+    };
+    blank(args.path(0), &wanted, out)
+}
+
+/// Makes a blank file, durably, and says so once it was read back.
+pub fn blank(path: &Path, wanted: &Wanted, out: &Out) -> Result<(), Failure> {
+    // refused before a file is made or touched
+    let records = blank_records(wanted)?;
+    let disk = Disk::to_make(path)?;
+    let len = disk.len()?;
+    if len > 0 && !wanted.force {
+        return Err(Failure::Exists(format!(
+            "{} has {len} bytes: give another name, or --force to lose what it holds",
+            path.display()
+        )));
+    }
+    grow(&disk, len, wanted.room.saturating_mul(wanted.l))?;
+    write_records(&disk, &records, wanted.l as usize)
+        .map_err(|error| disk.failed("it could not be blanked, do it again with --force", &error))?;
+    sync_folder_of(path)?;
+
+    let (bytes, way) = read_back(&disk)?;
+    let sizes = sdd::open(&bytes)?;
+    if !wanted.l.is_multiple_of(512) {
+        out.remark("records that are no multiple of 512 bytes share the device's sectors: see docs/HOST.md");
+    }
+    out.answer(
+        || {
+            format!(
+                "blanked: {} slots, {} records of {} bytes, {}",
+                sizes.capacity,
+                sizes.room,
+                sizes.l,
+                way.sentence()
+            )
+        },
+        || {
+            Json::Object(vec![
+                ("event", Json::text("blanked")),
+                ("slots", Json::number(sizes.capacity)),
+                ("room", Json::number(sizes.room)),
+                ("read-back", Json::text(way.name())),
+            ])
+        },
+    )
+}
+
+/// The N records of a blank file, made in memory: refused 16 where there are none.
+fn blank_records(wanted: &Wanted) -> Result<Vec<u8>, Failure> {
+    // larger sizes are refused whatever is lent, so nothing is
+    let lent = if wanted.n <= 513 && wanted.l <= 4_096 { wanted.n.min(wanted.room) * wanted.l } else { 0 };
+    let mut records = vec![0; lent as usize];
+    sdd::blank(&mut records, wanted.n, wanted.l, wanted.m)?;
+    Ok(records)
+}
+
+/// Makes the file at least so long, with space on the device where the file system can say so.
+fn grow(disk: &Disk, len: u64, wanted: u64) -> Result<(), Failure> {
+    if len >= wanted {
+        return Ok(());
+    }
+    let grown = match uninterrupted(|| sys::allocate(&disk.file, wanted)) {
+        Err(error) if error.kind() == ErrorKind::Unsupported => disk.file.set_len(wanted),
+        other => other,
+    };
+    grown.map_err(|error| disk.failed("it could not be given that room", &error))
+}
+
+/// The index first and record 1 last: until then a new file is no SDD file.
+fn write_records(disk: &Disk, records: &[u8], l: usize) -> io::Result<()> {
+    disk.file.write_all_at(&records[l..], l as u64)?;
+    uninterrupted(|| disk.file.sync_all())?;
+    disk.write_durably(0, &records[..l])?;
+    uninterrupted(|| disk.file.sync_all())
+}

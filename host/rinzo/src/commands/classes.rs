@@ -1,0 +1,33 @@
+//! `rinzo classes`: the parts of a slot's scan.
+
+use super::look_at;
+use crate::args::Args;
+use crate::failure::Failure;
+use crate::json::Json;
+use crate::out::Out;
+use sdd::Span;
+
+pub fn run(args: &Args, out: &Out) -> Result<(), Failure> {
+    let slot = args.slot(1)?;
+    let file = look_at(args.path(0))?;
+    let scan = &file[sdd::read(&file, slot)?];
+    let classes = sdd::classes(scan)?;
+    let data = sdd::data(scan)?;
+    out.answer(|| text(&classes, &data), || json(&classes, &data))
+}
+
+fn text(classes: &[Span], data: &Span) -> String {
+    let row = |name: String, span: &Span| format!("{name:<9}{:>7}{:>7}{:>7}", span.start, span.end, span.len());
+    let mut rows = vec![format!("{:<9}{:>7}{:>7}{:>7}", "", "from", "to", "bytes")];
+    rows.extend((1..).zip(classes).map(|(number, span)| row(format!("class {number}"), span)));
+    rows.push(row("data".to_string(), data));
+    rows.join("\n")
+}
+
+fn span_json(span: &Span) -> Json {
+    Json::Object(vec![("from", Json::number(span.start as u64)), ("to", Json::number(span.end as u64))])
+}
+
+fn json(classes: &[Span], data: &Span) -> Json {
+    Json::Object(vec![("classes", Json::List(classes.iter().map(span_json).collect())), ("data", span_json(data))])
+}

@@ -1,0 +1,92 @@
+//! `rinzo entry`: the index entry of a slot.
+
+use super::list::kind_name;
+use super::look_at;
+use crate::about::source_text;
+use crate::args::Args;
+use crate::failure::Failure;
+use crate::json::Json;
+use crate::out::Out;
+use sdd::{Entry, Kind, Real4, Real8};
+
+pub fn run(args: &Args, out: &Out) -> Result<(), Failure> {
+    let slot = args.slot(1)?;
+    let file = look_at(args.path(0))?;
+    let entry = sdd::entry(&file, slot)?;
+    out.answer(|| text(slot, &entry), || json(slot, &entry))
+}
+
+/// The names of the two fields that go by the kind, and what they hold.
+fn measured(entry: &Entry) -> [(&'static str, Json, String); 2] {
+    let (names, single, double) = match entry.kind {
+        Kind::SpectralLine { resolution, rest_frequency } => {
+            (["resolution", "rest-frequency"], resolution, rest_frequency)
+        }
+        Kind::Continuum { slew_rate, integration_time } => {
+            (["slew-rate", "integration-time"], slew_rate, integration_time)
+        }
+        Kind::Other { single, double } => (["bytes-36-39", "bytes-40-47"], single, double),
+    };
+    [(names[0], json4(single), text4(single)), (names[1], json8(double), text8(double))]
+}
+
+fn text4(real: Real4) -> String {
+    let value = real.value();
+    if value.is_nan() { format!("NaN (bits {:08x})", real.bits()) } else { format!("{value:?}") }
+}
+
+fn text8(real: Real8) -> String {
+    let value = real.value();
+    if value.is_nan() { format!("NaN (bits {:016x})", real.bits()) } else { format!("{value:?}") }
+}
+
+/// The value as written in the shortest way that gives the same Real*4.
+fn json4(real: Real4) -> Json {
+    let value = format!("{:?}", real.value()).parse().unwrap_or(f64::NAN);
+    Json::float(format!("{:08x}", real.bits()), value)
+}
+
+fn json8(real: Real8) -> Json {
+    Json::float(format!("{:016x}", real.bits()), real.value())
+}
+
+fn text(slot: u64, e: &Entry) -> String {
+    let [single, double] = measured(e);
+    let rows = [
+        ("slot", slot.to_string()),
+        ("records", format!("{} to {}", e.first, e.last)),
+        ("kind", format!("{} (mode {})", kind_name(&e.kind), e.mode)),
+        ("source", source_text(&e.source)),
+        ("scan-number", text4(e.scan)),
+        ("horizontal", text4(e.horizontal)),
+        ("vertical", text4(e.vertical)),
+        (single.0, single.2),
+        (double.0, double.2),
+        ("lst", text4(e.lst)),
+        ("date", text4(e.date)),
+        ("number", e.number.to_string()),
+        ("position", e.position.to_string()),
+    ];
+    rows.map(|(name, value)| format!("{name:<17}{value}").trim_end().to_string()).join("\n")
+}
+
+fn json(slot: u64, e: &Entry) -> Json {
+    let [single, double] = measured(e);
+    Json::Object(vec![
+        ("slot", Json::number(slot)),
+        ("first", Json::number(e.first)),
+        ("last", Json::number(e.last)),
+        ("kind", Json::text(kind_name(&e.kind))),
+        ("mode", Json::number(e.mode)),
+        ("source", Json::text(source_text(&e.source))),
+        ("scan-number", json4(e.scan)),
+        ("horizontal", json4(e.horizontal)),
+        ("vertical", json4(e.vertical)),
+        (single.0, single.1),
+        (double.0, double.1),
+        ("lst", json4(e.lst)),
+        ("date", json4(e.date)),
+        ("number", Json::number(e.number)),
+        ("position", Json::number(e.position)),
+    ])
+}

@@ -1,0 +1,106 @@
+//! The calls that change a file, one record at a time.
+
+use crate::Refusal;
+use crate::linked::calls;
+use crate::look::accepted;
+
+/// An entry's bytes 8 to 61, as they are to stand in the file.
+pub type About = [u8; 54];
+
+/// A save, keep or clear under way. It is a value: copy it freely. A job that
+/// is stepped no more is dropped; the file stays good wherever it stopped.
+#[derive(Clone, Copy, Debug, PartialEq, Eq)]
+pub struct Job(face::Job);
+
+impl Job {
+    /// Whether it saves (or keeps); else it clears.
+    pub fn saves(&self) -> bool {
+        self.0.saves == 1
+    }
+
+    /// The slot that is saved to or cleared.
+    pub fn slot(&self) -> u64 {
+        self.0.slot
+    }
+
+    /// The first of the scan's new records, 0 for a clear.
+    pub fn first(&self) -> u64 {
+        self.0.first
+    }
+
+    /// Bytes of the scan, 0 for a clear.
+    pub fn scan_len(&self) -> u64 {
+        self.0.scan_len
+    }
+
+    /// Records written so far.
+    pub fn written(&self) -> u64 {
+        self.0.written
+    }
+}
+
+/// What a step did.
+#[derive(Clone, Copy, Debug, PartialEq, Eq)]
+pub enum Step {
+    /// It wrote this record of the lent file, and nothing else.
+    Wrote {
+        /// The record.
+        record: u64,
+        /// Records written so far.
+        written: u64,
+    },
+    /// It wrote nothing, judged the file and found the save as it should be.
+    Saved {
+        /// Records written in all.
+        written: u64,
+    },
+    /// It wrote nothing, judged the file and found the slot cleared.
+    Cleared {
+        /// Records written in all.
+        written: u64,
+    },
+}
+
+/// Makes a file without scans of the first N records: refusal 16. The bytes after them stay.
+pub fn blank(file: &mut [u8], n: u64, l: u64, m: u64) -> Result<(), Refusal> {
+    // SAFETY: the pointer and the length are those of a slice borrowed for writing.
+    let why = unsafe { (calls().blank)(file.as_mut_ptr(), file.len(), n, l, m) };
+    accepted(why, ())
+}
+
+/// Begins to save a scan to a slot: refusals 1 to 9, 11, 13.
+pub fn save(file: &[u8], slot: u64, scan: &[u8], about: &About) -> Result<Job, Refusal> {
+    // SAFETY: pointers and lengths are those of slices, and `about` is 54 bytes.
+    let begun = unsafe { (calls().save)(file.as_ptr(), file.len(), slot, scan.as_ptr(), scan.len(), about.as_ptr()) };
+    accepted(begun.why, Job(begun.job))
+}
+
+/// Begins to save a scan to the lowest empty slot: refusals 1 to 8, 12, 11, 13.
+pub fn keep(file: &[u8], scan: &[u8], about: &About) -> Result<Job, Refusal> {
+    // SAFETY: as in `save`.
+    let begun = unsafe { (calls().keep)(file.as_ptr(), file.len(), scan.as_ptr(), scan.len(), about.as_ptr()) };
+    accepted(begun.why, Job(begun.job))
+}
+
+/// Begins to clear a slot: refusals 1 to 10.
+pub fn clear(file: &[u8], slot: u64) -> Result<Job, Refusal> {
+    // SAFETY: as in `save`.
+    let begun = unsafe { (calls().clear)(file.as_ptr(), file.len(), slot) };
+    accepted(begun.why, Job(begun.job))
+}
+
+/// Does the next step: refusals 14, and for the confirming step 1 to 8 and 15.
+/// The scan is the one the job was begun with, empty for a clear. The job moves
+/// on where the step is accepted and stays as it was where it is refused.
+pub fn step(file: &mut [u8], scan: &[u8], job: &mut Job) -> Result<Step, Refusal> {
+    // SAFETY: as in `save`; the file is borrowed for writing.
+    let stepped = unsafe { (calls().step)(file.as_mut_ptr(), file.len(), scan.as_ptr(), scan.len(), job.0) };
+    let written = stepped.written;
+    let step = match stepped.done {
+        0 => Step::Wrote { record: stepped.record, written },
+        1 => Step::Saved { written },
+        _ => Step::Cleared { written },
+    };
+    *job = Job(stepped.job);
+    accepted(stepped.why, step)
+}

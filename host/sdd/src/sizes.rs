@@ -1,0 +1,40 @@
+//! The sizes of a file.
+
+/// The sizes of a file that opens, in the paper's letters.
+#[derive(Clone, Copy, Debug, PartialEq, Eq)]
+pub struct Sizes {
+    /// N: records of bootstrap and index.
+    pub n: u64,
+    /// D: data records.
+    pub d: u64,
+    /// L: bytes per record.
+    pub l: u64,
+    /// M: bytes per index entry.
+    pub m: u64,
+    /// U: entries in use, at least the highest slot with a scan.
+    pub u: u64,
+    /// The update counter: one higher at each job; after all ones comes zero.
+    pub counter: u32,
+    /// Whether the file holds individual records (type 1) and not data (type 0).
+    pub individual_records: bool,
+    /// How many slots there are.
+    pub capacity: u64,
+    /// Whole records lent, at most 1,000,000.
+    pub room: u64,
+}
+
+impl Sizes {
+    pub(crate) fn of(opened: face::Opened) -> Sizes {
+        Sizes {
+            n: opened.n,
+            d: opened.d,
+            l: opened.l,
+            m: opened.m,
+            u: opened.u,
+            counter: opened.counter as u32,
+            individual_records: opened.kind == 1,
+            capacity: opened.capacity,
+            room: opened.room,
+        }
+    }
+}

@@ -1,0 +1,114 @@
+//! The safe crate: types come out as they should.
+
+use sample::scan;
+use sdd::{Kind, Refusal, Rule, Step};
+
+fn file() -> Vec<u8> {
+    let mut file = vec![0; 4_096];
+    sdd::blank(&mut file, 3, 512, 64).unwrap();
+    file
+}
+
+/// Runs a job to its confirmation.
+fn run(file: &mut [u8], scan: &[u8], mut job: sdd::Job) -> Step {
+    loop {
+        match sdd::step(file, scan, &mut job).unwrap() {
+            Step::Wrote { .. } => (),
+            done => return done,
+        }
+    }
+}
+
+#[test]
+fn every_refusal_has_its_number_and_a_sentence() {
+    use Refusal::*;
+    let all = [
+        TooShort,
+        OldForm,
+        UnknownVersion,
+        BadBootstrap,
+        CutShort,
+        BadEntry(5),
+        EntryAboveUsed(6),
+        SharedRecord(7),
+        NoSuchSlot,
+        EmptySlot,
+        BadScan(Rule::Head),
+        NoEmptySlot,
+        NoRoom,
+        JobDisagrees,
+        NotConfirmed,
+        BadSizes,
+        AnswerTooLong,
+    ];
+    for (number, refusal) in (1..).zip(all) {
+        assert_eq!(refusal.number(), number);
+        assert!(
+            refusal.to_string().contains(": ") || refusal.to_string().contains(", "),
+            "{refusal} does not say what to do"
+        );
+    }
+    assert_eq!(all.map(Refusal::value), [0, 0, 0, 0, 0, 5, 6, 7, 0, 0, 4, 0, 0, 0, 0, 0, 0]);
+}
+
+#[test]
+fn refusals_come_as_cases() {
+    assert_eq!(sdd::open(&[]), Err(Refusal::TooShort));
+    assert_eq!(sdd::open(&[0; 512]), Err(Refusal::OldForm));
+    let mut file = file();
+    assert_eq!(sdd::entry(&file, 17), Err(Refusal::NoSuchSlot));
+    assert_eq!(sdd::show(&file, 1), Err(Refusal::EmptySlot));
+    assert_eq!(sdd::save(&file, 1, &scan(512, 3)[..300], &[0; 54]), Err(Refusal::BadScan(Rule::Data)));
+    assert_eq!(sdd::blank(&mut file, 3, 511, 64), Err(Refusal::BadSizes));
+    file[512 + 3] = 9;
+    assert_eq!(sdd::list(&file), Err(Refusal::EntryAboveUsed(1)));
+}
+
+#[test]
+fn a_refused_step_leaves_the_job_as_it_was() {
+    let mut file = file();
+    let scan = scan(600, 3);
+    let begun = sdd::keep(&file, &scan, &[0; 54]).unwrap();
+    let mut job = begun;
+    assert_eq!(sdd::step(&mut file, &scan[1..], &mut job), Err(Refusal::JobDisagrees));
+    assert_eq!(job, begun);
+    assert_eq!(sdd::step(&mut file, &scan, &mut job), Ok(Step::Wrote { record: 4, written: 1 }));
+    assert_eq!((job.written(), job.first(), job.slot(), job.scan_len(), job.saves()), (1, 4, 1, 600, true));
+}
+
+#[test]
+fn an_entry_carries_its_kind() {
+    let mut file = file();
+    let scan = scan(512, 3);
+    for (mode, slot) in [(512i16, 1), (304, 2), (305, 3)] {
+        let mut about = [0; 54];
+        about[28..32].copy_from_slice(&1.5f32.to_be_bytes());
+        about[32..40].copy_from_slice(&0x7ff8_0000_0000_0001u64.to_be_bytes());
+        about[48..50].copy_from_slice(&mode.to_be_bytes());
+        let job = sdd::save(&file, slot, &scan, &about).unwrap();
+        assert_eq!(run(&mut file, &scan, job), Step::Saved { written: 3 });
+    }
+    let kind = |slot| sdd::entry(&file, slot).unwrap().kind;
+    let Kind::SpectralLine { resolution, rest_frequency } = kind(1) else { panic!("slot 1 is a spectral line") };
+    assert_eq!((resolution.value(), rest_frequency.bits()), (1.5, 0x7ff8_0000_0000_0001));
+    assert!(matches!(kind(2), Kind::Continuum { .. }));
+    assert!(matches!(kind(3), Kind::Other { .. }));
+}
+
+#[test]
+fn parts_are_spans_of_what_was_lent() {
+    let mut file = file();
+    let scan = scan(700, 3);
+    let job = sdd::keep(&file, &scan, &[0; 54]).unwrap();
+    run(&mut file, &scan, job);
+    assert_eq!(sdd::show(&file, 1), Ok(1_536..2_560));
+    assert_eq!(sdd::read(&file, 1), Ok(1_536..2_236));
+    let classes = sdd::classes(&scan).unwrap();
+    assert_eq!(classes.len(), 13);
+    assert_eq!((classes[0].clone(), classes[12].clone()), (32..160, 248..256));
+    assert_eq!(sdd::data(&scan), Ok(256..700));
+    assert!(sdd::class(&scan, 14).unwrap().is_empty());
+    let job = sdd::clear(&file, 1).unwrap();
+    assert_eq!(run(&mut file, &[], job), Step::Cleared { written: 2 });
+    assert_eq!(sdd::list(&file), Ok(vec![]));
+}

@@ -1,0 +1,209 @@
+/* sdd.h: the store for SDD files, for programs in C and in languages that speak C.
+ *
+ * Link target/staticlib/libsdd.a (x86-64; `rt staticlib sdd` writes it), or the object that
+ * host/native makes of the same module on another processor. Rust programs use the crate host/sdd.
+ *
+ * For every call:
+ *
+ * - It takes every input: no call has a condition that its caller must meet first, beyond that the
+ *   memory lent is there. It always returns, allocates nothing and keeps nothing between calls, so
+ *   calls on different memory may run at the same time.
+ * - A slice is a pointer and then a length in elements. Where the length is 0 the pointer may be
+ *   anything, also null. `about` is 54 readable bytes. What is lent to one call does not overlap.
+ * - Only memory lent as not `const` is ever written, and only where the call's own comment says so.
+ *   A refused call writes nothing.
+ * - `why` is {0, 0} where the call is accepted. Else it is the paper's refusal number with its slot
+ *   or reason (0 where there is none), every other field of the answer is 0, and the job of a
+ *   refused step is the job that was lent.
+ *
+ * "The file" is all bytes lent, which may be more than are in use: what is in use follows from the
+ * bootstrap. Records are numbered from 1, slots from 1, classes from 1. Numbers inside the file are
+ * big-endian; numbers in these structs are the machine's own.
+ *
+ * The refusals, in the order in which they are looked for ("open's own" are 1 to 8):
+ *
+ *    1  fewer than 512 bytes
+ *    2  the old form of file (word 8 is 0)
+ *    3  no version that is known (word 8 is neither 0 nor 1)
+ *    4  a bootstrap number outside its range, or a capacity above 4,096
+ *    5  the bootstrap speaks of more bytes than were lent
+ *    6  the lowest entry up to U that is neither empty nor in range; value: its slot
+ *    7  the lowest entry above U that is not empty; value: its slot
+ *    8  the lowest slot that shares a record with a smaller one; value: the slot
+ *    9  the slot lies outside 1 to capacity
+ *   10  the slot is empty
+ *   11  the scan breaks a rule; value: the rule, 1 to 6
+ *   12  keep: no slot is empty
+ *   13  no free records in a row that are enough
+ *   14  step: the job and the file (or the scan) disagree
+ *   15  confirming step: the entry or the records are not what the job gives
+ *   16  blank: sizes outside their ranges, or too large for what was lent
+ *   17  what was lent for the answer is too short to hold it
+ */
+#ifndef SDD_H
+#define SDD_H
+
+#include <stddef.h>
+#include <stdint.h>
+
+#ifdef __cplusplus
+extern "C" {
+#endif
+
+/* Why a call was refused; {0, 0} where it was not. */
+typedef struct {
+  uint32_t number; /* 1 to 17 as above, 0: accepted */
+  uint32_t value;  /* the slot (6, 7, 8) or the rule (11), else 0 */
+} sdd_refusal;
+
+/* The sizes of a file that opens. */
+typedef struct {
+  sdd_refusal why;
+  uint64_t n;        /* records of bootstrap and index, 2 to 513 */
+  uint64_t d;        /* data records */
+  uint64_t l;        /* bytes per record, 512 to 4,096 */
+  uint64_t m;        /* bytes per index entry, 64 to l, divides l */
+  uint64_t u;        /* entries in use: at least the highest slot with a scan */
+  uint64_t counter;  /* goes up by one at each job; 32 bits, after all ones comes zero */
+  uint64_t type;     /* 0 data, 1 individual records */
+  uint64_t capacity; /* slots, at most 4,096 */
+  uint64_t room;     /* whole records lent, at most 1,000,000 */
+} sdd_opened;
+
+/* How many scans were listed. */
+typedef struct {
+  sdd_refusal why;
+  uint64_t scans;
+} sdd_listed;
+
+/* Bytes from .. to (not including `to`) of what was lent. */
+typedef struct {
+  sdd_refusal why;
+  uint64_t from, to;
+} sdd_span;
+
+/* One index entry. Floats come as their bits, so that nothing is lost, not-a-numbers included. */
+typedef struct {
+  sdd_refusal why;
+  uint32_t first, last;          /* the scan's records */
+  uint32_t horizontal, vertical; /* coordinates: bits of Real*4 */
+  uint8_t  source[16];           /* source name, as it stands in the file */
+  uint32_t scan;                 /* scan number: bits of Real*4 */
+  uint32_t field4;               /* bits of Real*4: resolution (spectral line) or slew rate (continuum) */
+  uint64_t field8;               /* bits of Real*8: rest frequency in MHz or integration time */
+  uint32_t lst, date;            /* LST, UT date: bits of Real*4 */
+  int16_t  mode;                 /* 256 to 304 continuum, 512 to 560 spectral line */
+  int16_t  number;               /* record x 64 + phase */
+  int16_t  position;             /* position code */
+  uint16_t kind;                 /* what the mode says: 0 other, 1 continuum, 2 spectral line */
+  float    single_value;         /* the value of field4; some NaN where its bits are one's */
+  double   double_value;         /* the value of field8 likewise */
+} sdd_entry;
+
+/* A save, keep or clear under way. It is a value: copy it, keep it, lend it to the next step.
+ * A dropped job is one that is stepped no more; nothing needs to be freed. A job made by hand is
+ * taken like any other: a step either refuses it with 14 or does what these fields say. */
+typedef struct {
+  uint64_t saves;     /* 1 a save or keep; 0 a clear, handed out with scan_len, first and about 0,
+                         of which a step looks at neither first nor about; any other value: a step
+                         answers 14 */
+  uint64_t slot;      /* the slot that is saved to or cleared */
+  uint64_t scan_len;  /* bytes of the scan: the same scan is lent to every step */
+  uint64_t file_len;  /* bytes of the file: the same number is lent to every step */
+  uint64_t first;     /* the first of the scan's new records */
+  uint64_t written;   /* records written so far */
+  uint8_t  boot[32];  /* the file's first 32 bytes as the job was begun on or last wrote them */
+  uint8_t  about[54]; /* the entry's bytes 8 to 61 */
+} sdd_job;
+
+/* A job begun; the job is all zeros where it was refused. */
+typedef struct {
+  sdd_refusal why;
+  sdd_job job;
+} sdd_begun;
+
+/* What a step did, and the job to lend to the next one. */
+typedef struct {
+  sdd_refusal why;
+  uint64_t done;    /* 0 wrote a record, 1 Saved, 2 Cleared */
+  uint64_t record;  /* the record written, 0 when confirming */
+  uint64_t written; /* records written so far, this one included */
+  sdd_job job;
+} sdd_stepped;
+
+/* Judges the file and answers its sizes.
+ * Lent: the file, to look at. Refusals: open's own, 1 to 8. */
+sdd_opened sdd_open(const uint8_t *file, size_t file_len);
+
+/* Lists the scans in slot order: slot, first and last record, three elements of `out` for each.
+ * Lent: the file, to look at; `out`, out_len elements to write. Answered: the number of scans; the
+ * elements after 3 x scans are not touched, and 3 x capacity elements are always enough.
+ * Refusals: 1 to 8, then 17 where out_len is less than 3 x scans. */
+sdd_listed sdd_list(const uint8_t *file, size_t file_len, uint32_t *out, size_t out_len);
+
+/* Answers the index entry of a slot.
+ * Lent: the file, to look at. Refusals: 1 to 8, then 9, then 10 where the slot is empty. */
+sdd_entry sdd_entry_at(const uint8_t *file, size_t file_len, uint64_t slot);
+
+/* Shows a slot's records: the part of the file from its first record to the end of its last.
+ * Lent: the file, to look at. Refusals: 1 to 8, then 9, then 10. */
+sdd_span sdd_show(const uint8_t *file, size_t file_len, uint64_t slot);
+
+/* Reads a slot's scan: the part of the file that is the first HEADLEN + DATALEN bytes of its records.
+ * Lent: the file, to look at. Refusals: 1 to 8, then 9, then 10, then 11 with the first of rules 1
+ * to 5 that the records break. */
+sdd_span sdd_read(const uint8_t *file, size_t file_len, uint64_t slot);
+
+/* Answers where class `number` of a scan stands: bytes of the run.
+ * Lent: a run of bytes (a scan, or the records of one), to look at. Answered: an empty part where
+ * the number lies outside 1 to the count of classes.
+ * Refusals: 11 with the first of rules 1 to 5 that the run breaks. */
+sdd_span sdd_class(const uint8_t *run, size_t run_len, uint64_t number);
+
+/* Answers where the data of a scan stand: DATALEN bytes of the run, from HEADLEN on.
+ * Lent: a run of bytes, to look at. Refusals: 11 with the first of rules 1 to 5 that it breaks. */
+sdd_span sdd_data(const uint8_t *run, size_t run_len);
+
+/* Makes a file with no scans: writes N records (bootstrap and an empty index) and nothing beyond.
+ * Lent: the file, whose first n x l bytes are written where the call is accepted.
+ * Refusals: 16. */
+sdd_refusal sdd_blank(uint8_t *file, size_t file_len, uint64_t n, uint64_t l, uint64_t m);
+
+/* Begins to save a scan to a slot, whether or not the slot has one. Nothing is written yet: step the
+ * job, with the same scan, until it is confirmed. The scan goes to the lowest free records in a row
+ * that hold it; the slot's present scan stays whole and listed until the last record is written.
+ * Lent: the file, the scan and the entry's bytes 8 to 61, all to look at.
+ * Refusals: 1 to 8, then 9, then 11 with the first of rules 1 to 6 that the scan breaks, then 13. */
+sdd_begun sdd_save(const uint8_t *file, size_t file_len, uint64_t slot, const uint8_t *scan,
+                   size_t scan_len, const uint8_t about[54]);
+
+/* Begins to keep a scan: a save to the lowest empty slot, which the job names.
+ * Refusals: 1 to 8, then 12, then 11, then 13. */
+sdd_begun sdd_keep(const uint8_t *file, size_t file_len, const uint8_t *scan, size_t scan_len,
+                   const uint8_t about[54]);
+
+/* Begins to clear a slot. Nothing is written yet: step the job, with an empty scan.
+ * Lent: the file, to look at. Refusals: 1 to 8, then 9, then 10. */
+sdd_begun sdd_clear(const uint8_t *file, size_t file_len, uint64_t slot);
+
+/* Does the next step of a job. Each step writes at most one record: the scan's k records (the last
+ * padded with zeros), then record 1, then the slot's entry in its index record; of a clear record 1
+ * and the index record alone. `record` says which, and `written` how many so far. The step after
+ * the last write writes nothing, judges the file and compares what the job should have left there:
+ * it alone answers Saved or Cleared. A confirmed job stepped again is judged again.
+ *
+ * Make each record durable before the next step. If the machine stops between two steps, or the job
+ * is dropped, the file still opens, and the slot shows its old scan until the index record is
+ * written and the new one from then on.
+ *
+ * Lent: the file, in which the one record is written where the step is accepted; the scan the job
+ * was begun with (empty for a clear), to look at; the job as the last step handed it back.
+ * Refusals: 14 first; the confirming step then also 1 to 8, then 15. */
+sdd_stepped sdd_step(uint8_t *file, size_t file_len, const uint8_t *scan, size_t scan_len,
+                     sdd_job job);
+
+#ifdef __cplusplus
+}
+#endif
+
+#endif
