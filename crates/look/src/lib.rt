@@ -1,6 +1,6 @@
 //! The calls that look at a file and change nothing: list, entry, show and read.
 ghost use mathlib.Core.Path.{_≡_};
-ghost use Rattle.paper.specs.Refusals.{listedSays, spanSays, takenSays};
+ghost use Rattle.paper.specs.Refusals.{listedSays, spanSays, takenSays, kindSays};
 ghost use Rattle.paper.specs.Scan.{partOf};
 ghost use Rattle.paper.specs.Look.{listedOf, listedOut, foundOf, showOf, readOf};
 use paper::answer::Listed;
@@ -25,6 +25,7 @@ pub fn list(file: &[u8], out: &mut [u32]) -> Listed
 pub fn entry(file: &[u8], slot: usize) -> Found
     ensures answer { λ r. ⌜ takenSays (r .answer) ≡ takenSays (foundOf (now (file .entry)) slot .answer) ⌝ }
     ensures fields { λ r. ⌜ r .entry ≡ foundOf (now (file .entry)) slot .entry ⌝ }
+    ensures kind { λ r. ⌜ kindSays (r .entry .kind) ≡ kindSays (foundOf (now (file .entry)) slot .entry .kind) ⌝ }
 {
     fields::found(file, slot)
 }

@@ -1,29 +1,28 @@
 -- When job and file agree, in plain facts; and what a step comes to in each of its phases.
-use Prim.Native.Nat.{ℕ, _+_, _-_, _*_, _≤_, _<_}
+use Prim.Native.Nat.{ℕ, _+_, _*_, _≤_, _<_}
 use mathlib.Core.Path.{_≡_, refl, sym, _∙_, ap, subst}
 use mathlib.Core.Bool.{Bool, true, false, cond}
-use mathlib.Core.List.{List, [], _∷_, _++_}
+use mathlib.Core.List.{List, [], _∷_}
 use native.Mathlib.Omega.{arith}
 use borrow.Author.Tests.{lt-ltb, le-ltb, le-leb, eq-eqb, ne-eqb, ltb-true, leb-true, eqb-true}
-use lib.Dec.{ltb, leb, eqb}
-use lib.ListN.{length, take, drop, getD}
-use Rattle.lent.specs.Checks.{Check, check, Fired, clear, fires, fired}
+use lib.ListN.{length, take, drop}
+use Rattle.lent.specs.Checks.{Fired, clear, fires, fired}
 use Rattle.lent.specs.Lists.{all}
 use Rattle.lent.specs.Part.{part}
 use Rattle.lent.specs.Same.{same}
 use Rattle.lent.specs.Write.{write, pad}
-use Rattle.lent.proofs.Lists.{All, all-true, true-all, true≢false, not-so}
+use Rattle.lent.proofs.Lists.{all-true, true-all, true≢false, not-so}
 use Rattle.lent.proofs.Checks.{judge-clear}
 use Rattle.lent.proofs.Sames.{same-true, true-same}
 use Rattle.lent.proofs.Writes.{write-nothing}
 use Rattle.paper.specs.declared.sizes.Sizes.{Sizes}
 use Rattle.paper.specs.declared.refusal.Refusal.{Refusal}
-use Rattle.paper.specs.declared.refusal.Refusal.the-variants.{Disagrees, Differs}
+use Rattle.paper.specs.declared.refusal.Refusal.the-variants.{Disagrees}
 use Rattle.paper.specs.declared.answer.Opened.the-variants as opened
 use Rattle.paper.specs.declared.answer.Opened.the-variants.{Opens}
 use Rattle.paper.specs.declared.job.Job.{Job}
 use Rattle.paper.specs.declared.job.Step.{Step}
-use Rattle.paper.specs.declared.job.Step.the-variants.{Wrote, Saved, Cleared, Refused}
+use Rattle.paper.specs.declared.job.Step.the-variants.{Wrote, Refused}
 use Rattle.paper.specs.Sizes.{sizesOf, bootBytes, capacityOf, recordOf, startOf, homeOf, roomOf, bootChecks}
 use Rattle.paper.specs.Index.{bootOf, openOf, entryAt, Booted}
 use Rattle.paper.specs.Store.{Write, perform, countOf, paddedOf, sizesAfter, entryAfter, writesOf}

@@ -1,20 +1,20 @@
 -- An accepted save, keep or clear: what it was accepted on, and that the job which it hands back is ready to be stepped.
-use Prim.Native.Nat.{ℕ, zero, suc, _+_, _-_, _*_, _/_, _%_, _≤_, _<_, min, max}
+use Prim.Native.Nat.{ℕ, _+_, _-_, _*_, _≤_, _<_}
 use mathlib.Core.Path.{_≡_, refl, sym, _∙_, ap, subst}
-use mathlib.Core.Bool.{Bool, true, false, not, cond}
+use mathlib.Core.Bool.{true, false, not}
 use mathlib.Core.List.{List, [], _∷_, _++_}
-use mathlib.Core.Logic.{_≢_, ⊎-elim}
+use mathlib.Core.Logic.{_≢_}
 use native.Mathlib.Omega.{arith}
-use native.Mathlib.Nat.{add-mul, zero-mul, add-zero}
+use native.Mathlib.Nat.{add-mul, zero-mul}
 use borrow.Author.Tests.{ltb-false, leb-true, eqb-false, le-ltb, le-leb, ne-eqb, not-false}
-use lib.Dec.{ltb, leb, eqb}
-use lib.ListN.{length, take, drop, replicate}
+use lib.Dec.{leb, eqb}
+use lib.ListN.{length, take}
 use Rattle.lent.specs.Checks.{Check, check, Fired, clear, fires, fired, answer, judge}
 use Rattle.lent.specs.Least.{Lowest}
 use Rattle.lent.specs.Lists.{all}
 use Rattle.lent.specs.Part.{part}
 use Rattle.lent.specs.Write.{write, pad, zeros}
-use Rattle.lent.proofs.Lists.{true≢false, all-true, true-all, lt-or-ge}
+use Rattle.lent.proofs.Lists.{true≢false, all-true, true-all}
 use Rattle.lent.proofs.Leasts.{lowest-least}
 use Rattle.lent.proofs.Checks.{clear-cons, cons-clear, clear-all, all-clear, judge-clear}
 use Rattle.lent.proofs.Parts.{part-in, part-none}
@@ -25,21 +25,19 @@ use Rattle.paper.specs.declared.refusal.Refusal.{Refusal}
 use Rattle.paper.specs.declared.refusal.Refusal.the-variants.{NoEmptySlot}
 use Rattle.paper.specs.declared.answer.Opened.the-variants.{Opens}
 use Rattle.paper.specs.declared.answer.Ruled.the-variants.{Keeps}
-use Rattle.paper.specs.declared.answer.Taken.the-variants.{Accepted, Refused}
+use Rattle.paper.specs.declared.answer.Taken.the-variants.{Accepted}
 use Rattle.paper.specs.declared.job.Job.{Job}
-use Rattle.paper.specs.declared.job.Begun.{Begun}
 use Rattle.paper.specs.Sizes.{sizesOf, capacityOf, startOf, roomOf}
-use Rattle.paper.specs.Index.{runOf, empty, openChecks, openOf, Lies, Laid, Sound}
-use Rattle.paper.specs.Entry.{entryBytes}
+use Rattle.paper.specs.Index.{runOf, empty, openChecks, openOf, Lies, Sound}
 use Rattle.paper.specs.Scan.{headlen, datalen, ruledOf}
 use Rattle.paper.specs.Look.{noSlot, noScan, slotChecks}
-use Rattle.paper.specs.Store.{recordsFor, runFrom, freePlace, emptySlot, refused, accepted, placeFor, saveJob, clearJob, reasonOf, scanChecks, saveOf, keepSlot, keepOf, clearOf, countOf, paddedOf, dataFrom, dataWrites, sizesAfter, entryAfter}
-use Rattle.paper.proofs.Opening.{empty-facts, full-facts, facts-empty, facts-full, full-holds, then-clear, then-opens, open-sound, open-reads, empty-lies}
+use Rattle.paper.specs.Store.{recordsFor, runFrom, emptySlot, refused, accepted, placeFor, saveJob, clearJob, reasonOf, scanChecks, saveOf, keepSlot, keepOf, clearOf, dataFrom, dataWrites, sizesAfter, entryAfter}
+use Rattle.paper.proofs.Opening.{full-facts, facts-full, full-holds, then-clear, then-opens, open-sound, empty-lies}
 use Rattle.paper.proofs.Rules.{keeps-lengths}
 use Rattle.paper.proofs.Reasons.{no-reason}
 use Rattle.paper.proofs.Writes.{enough, some-record}
 use Rattle.paper.proofs.Agreement.{Agreeing}
-use Rattle.paper.proofs.Encoding.{statedBy, Small, length-entry, entry-states, zeros-state}
+use Rattle.paper.proofs.Encoding.{statedBy, length-entry, entry-states, zeros-state}
 use Rattle.paper.proofs.Free.{performs, FreeAt, place-free, free-nobody, room-in, used-room, data-free, data-all}
 use Rattle.paper.proofs.Bootstrap.{covers-more}
 use Rattle.paper.proofs.IndexLaw.{Alone}

@@ -1,17 +1,15 @@
 -- An accepted blank: the file opens with the sizes given and lists nothing; and where a data record has room there is a place for a scan.
-use Prim.Native.Nat.{ℕ, zero, suc, _+_, _-_, _*_, _/_, _≤_, _<_, min}
-use mathlib.Core.Path.{_≡_, refl, sym, _∙_, ap, subst}
-use mathlib.Core.Bool.{Bool, true, false, not}
+use Prim.Native.Nat.{ℕ, _+_, _-_, _*_, _≤_}
+use mathlib.Core.Path.{_≡_, refl, sym, _∙_, ap}
+use mathlib.Core.Bool.{not}
 use mathlib.Core.List.{List, [], _∷_, _++_, append-assoc}
 use mathlib.Core.Logic.{_≢_}
 use native.Mathlib.Omega.{arith}
-use native.Mathlib.Nat.{add-zero, zero-add, le-div-iff-mul-le, mul-le-mul-right}
+use native.Mathlib.Nat.{add-zero, zero-add}
 use borrow.Author.Tests.{leb-true, le-leb, not-false}
 use lib.Dec.{leb}
 use lib.ListN.{length, drop}
-use Rattle.lent.specs.Checks.{Fired, clear, fires, fired, answer, judge}
-use Rattle.lent.specs.Least.{None}
-use Rattle.lent.specs.Lists.{all}
+use Rattle.lent.specs.Checks.{Fired, clear, fires, fired, answer}
 use Rattle.lent.specs.Number.{big, be32}
 use Rattle.lent.specs.Write.{write, pad, zeros}
 use Rattle.lent.proofs.Lists.{true≢false, all-true, true-all}
@@ -25,7 +23,7 @@ use Rattle.paper.specs.declared.refusal.Refusal.{Refusal}
 use Rattle.paper.specs.declared.answer.Taken.the-variants.{Accepted, Refused}
 use Rattle.paper.specs.Sizes.{sizesOf, versionOf, bootBytes, capacityOf, homeOf, roomOf, shaped, Shaped, Ranged}
 use Rattle.paper.specs.Index.{runOf, Sound}
-use Rattle.paper.specs.Store.{blankSizes, blankChecks, blankOf, blankFile, recordsFor, freeAt, freePlace}
+use Rattle.paper.specs.Store.{blankSizes, blankChecks, blankOf, blankFile, freeAt, freePlace}
 use Rattle.paper.proofs.Sizing.{head-long, home-end}
 use Rattle.paper.proofs.Opening.{shaped-facts, facts-shaped}
 use Rattle.paper.proofs.Encoding.{length-boot, sizes-back, version-back}

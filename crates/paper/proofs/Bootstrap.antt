@@ -1,6 +1,6 @@
 -- The bootstrap law: record 1 written anew, with any D, U and counter that leave every listed scan in. The file opens with them, and shows the same.
-use Prim.Native.Nat.{ℕ, _+_, _-_, _*_, _/_, _≤_, _<_}
-use mathlib.Core.Path.{_≡_, refl, sym, _∙_, ap, subst}
+use Prim.Native.Nat.{ℕ, _+_, _-_, _≤_, _<_}
+use mathlib.Core.Path.{_≡_, sym, _∙_, ap, subst}
 use mathlib.Core.List.{List}
 use native.Mathlib.Omega.{arith}
 use lib.ListN.{length, take}
@@ -10,9 +10,9 @@ use Rattle.lent.proofs.Parts.{same-after, part-in}
 use Rattle.lent.proofs.Writes.{length-write}
 use Rattle.paper.specs.declared.sizes.Sizes.{Sizes}
 use Rattle.paper.specs.declared.sizes.Run.{Run}
-use Rattle.paper.specs.Sizes.{bootBytes, renewed, capacityOf, startOf, homeOf, roomOf, Ranged}
-use Rattle.paper.specs.Index.{runOf, Lies, Laid, Booted, Sound}
-use Rattle.paper.proofs.Sizing.{head-long, head-in, home-in}
+use Rattle.paper.specs.Sizes.{bootBytes, renewed, capacityOf, roomOf, Ranged}
+use Rattle.paper.specs.Index.{runOf, Lies, Laid, Sound}
+use Rattle.paper.proofs.Sizing.{head-long, home-in}
 use Rattle.paper.proofs.Opening.{inside-all, apart-all, lies-end, lies-past}
 use Rattle.paper.proofs.Encoding.{length-boot, boot-reads, boot-version}
 use Rattle.paper.proofs.Frame.{Kept, laid-same, run-same, shown-same, entry-same}

@@ -1,10 +1,10 @@
 -- What is written is read back: the bootstrap's 32 bytes as sizes, an entry's bytes as its run and its bytes 8 to 61.
-use Prim.Native.Nat.{ℕ, _+_, _-_, _*_, _≤_, _<_}
-use mathlib.Core.Path.{_≡_, refl, sym, _∙_, ap}
+use Prim.Native.Nat.{ℕ, _+_, _-_, _≤_, _<_}
+use mathlib.Core.Path.{_≡_, sym, _∙_, ap}
 use mathlib.Core.List.{List, [], _∷_, _++_}
 use native.Mathlib.Omega.{arith}
-use native.Mathlib.Nat.{add-zero, zero-add}
-use lib.ListN.{length, take, drop, getD, length-append}
+use native.Mathlib.Nat.{add-zero}
+use lib.ListN.{length, take, drop, length-append}
 use lib.Seq.{take-at, drop-at}
 use Rattle.lent.specs.Number.{big, be32, words}
 use Rattle.lent.specs.Part.{part}

@@ -1,10 +1,10 @@
 -- The frame law: a file with the same length, bootstrap, index and bytes of every listed scan opens alike, lists the same and shows the same.
-use Prim.Native.Nat.{ℕ, _+_, _-_, _*_, _≤_, _<_}
-use mathlib.Core.Path.{_≡_, refl, sym, _∙_, ap}
+use Prim.Native.Nat.{ℕ, _+_, _*_, _≤_, _<_}
+use mathlib.Core.Path.{_≡_, _∙_, ap}
 use mathlib.Core.List.{List}
 use mathlib.Core.Logic.{⊎-elim}
 use native.Mathlib.Omega.{arith}
-use lib.ListN.{length, drop, getD}
+use lib.ListN.{length}
 use Rattle.lent.specs.Number.{big, be32}
 use Rattle.lent.specs.Part.{part, Same}
 use Rattle.lent.proofs.Lists.{lt-or-ge}
@@ -12,10 +12,9 @@ use Rattle.lent.proofs.Numbers.{number-same}
 use Rattle.lent.proofs.Parts.{part-same, same-within}
 use Rattle.paper.specs.declared.sizes.Sizes.{Sizes}
 use Rattle.paper.specs.declared.sizes.Run.{Run}
-use Rattle.paper.specs.Sizes.{sizesOf, versionOf, capacityOf, startOf, homeOf}
-use Rattle.paper.specs.Index.{runOf, shownOf, entryAt, Lies, Laid, Booted, Sound}
-use Rattle.paper.proofs.Sizing.{head-long, head-in, home-end}
-use Rattle.paper.proofs.Opening.{inside-all}
+use Rattle.paper.specs.Sizes.{capacityOf, startOf, homeOf}
+use Rattle.paper.specs.Index.{runOf, shownOf, entryAt, Laid, Booted, Sound}
+use Rattle.paper.proofs.Sizing.{head-long, home-end}
 
 -- ---- what rests on which bytes
 

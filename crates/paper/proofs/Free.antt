@@ -1,7 +1,7 @@
 -- Writes to free records, in any order and any number of them, keep to the frame; and what the place found for a scan gives.
 use Prim.Native.Nat.{ℕ, zero, suc, _+_, _-_, _*_, _/_, _≤_, _<_}
-use mathlib.Core.Path.{_≡_, refl, sym, _∙_, ap, subst}
-use mathlib.Core.Bool.{Bool, true, false}
+use mathlib.Core.Path.{_≡_, refl, sym, _∙_, ap}
+use mathlib.Core.Bool.{true}
 use mathlib.Core.List.{List, [], _∷_, _++_}
 use mathlib.Core.Logic.{_≢_, ⊎-elim}
 use native.Mathlib.Omega.{arith}
@@ -10,15 +10,14 @@ use borrow.Author.Tests.{ltb-true, leb-true, eqb-true, lt-ltb, le-leb, eq-eqb}
 use lib.ListN.{length, take, drop, getD, length-drop, take-append-drop}
 use lib.Seq.{take-suc, length-take-le}
 use Rattle.lent.specs.Least.{Lowest}
-use Rattle.lent.specs.Part.{Same}
 use Rattle.lent.specs.Write.{write}
 use Rattle.lent.proofs.Lists.{lt-or-ge, all-true, true-all}
 use Rattle.lent.proofs.Leasts.{lowest-least}
 use Rattle.lent.proofs.Writes.{length-write, write-before, write-after, write-nothing, write-next}
 use Rattle.paper.specs.declared.sizes.Sizes.{Sizes}
 use Rattle.paper.specs.declared.sizes.Run.{Run}
-use Rattle.paper.specs.Sizes.{capacityOf, startOf, roomOf, bytesOf}
-use Rattle.paper.specs.Index.{runOf, sharer, Laid, Booted}
+use Rattle.paper.specs.Sizes.{capacityOf, startOf, roomOf}
+use Rattle.paper.specs.Index.{runOf, Laid, Booted}
 use Rattle.paper.specs.Store.{Write, perform, runFrom, freeTests, freeAt, freePlace, dataFrom}
 use Rattle.paper.proofs.Sizing.{less, times}
 use Rattle.paper.proofs.Opening.{Shares, sharer-none, none-sharer, common-shares}

@@ -1,6 +1,6 @@
 -- The index law: one slot's entry written anew, empty or with a run that is free. The file opens, that slot shows the run, and the others what they showed.
-use Prim.Native.Nat.{ℕ, _+_, _-_, _*_, _/_, _≤_, _<_}
-use mathlib.Core.Path.{_≡_, refl, sym, _∙_, ap, subst}
+use Prim.Native.Nat.{ℕ, _+_, _*_, _≤_, _<_}
+use mathlib.Core.Path.{_≡_, sym, _∙_, ap, subst}
 use mathlib.Core.List.{List}
 use mathlib.Core.Logic.{_≢_, _⊎_, inl, inr, ⊎-elim}
 use native.Mathlib.Decide.{ℕ-discrete}
@@ -14,7 +14,7 @@ use Rattle.lent.proofs.Writes.{length-write}
 use Rattle.paper.specs.declared.sizes.Sizes.{Sizes}
 use Rattle.paper.specs.declared.sizes.Run.{Run}
 use Rattle.paper.specs.Sizes.{capacityOf, startOf, homeOf}
-use Rattle.paper.specs.Index.{runOf, shownOf, entryAt, Lies, Laid, Booted, Sound}
+use Rattle.paper.specs.Index.{runOf, shownOf, entryAt, Lies, Laid, Sound}
 use Rattle.paper.proofs.Sizing.{home-end, home-next, home-in}
 use Rattle.paper.proofs.Opening.{inside-all, lies-end, lies-past}
 use Rattle.paper.proofs.Encoding.{statedBy, run-back, entry-back}

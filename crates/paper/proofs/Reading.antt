@@ -1,24 +1,20 @@
 -- A scan that a slot shows, padded, is read back.
 use Prim.Native.Nat.{ℕ, _+_, _-_, _*_, _≤_, _<_}
 use mathlib.Core.Path.{_≡_, refl, sym, _∙_, ap, subst}
-use mathlib.Core.Bool.{Bool, true, false, not}
+use mathlib.Core.Bool.{true, false}
 use mathlib.Core.List.{List, [], _∷_, _++_}
 use native.Mathlib.Omega.{arith}
 use lib.ListN.{length, take, drop, length-append}
 use lib.Seq.{take-take, take-append-seam}
-use Rattle.lent.specs.Checks.{Check, clear, fired}
+use Rattle.lent.specs.Checks.{clear, fired}
 use Rattle.lent.specs.Part.{part}
 use Rattle.lent.specs.Write.{pad, zeros}
 use Rattle.lent.proofs.Checks.{all-clear, judge-clear}
 use Rattle.lent.proofs.Parts.{length-part-min}
 use Rattle.paper.specs.declared.sizes.Sizes.{Sizes}
-use Rattle.paper.specs.declared.sizes.Run.{Run}
-use Rattle.paper.specs.declared.refusal.Refusal.{Refusal}
-use Rattle.paper.specs.declared.answer.Ruled.{Ruled}
 use Rattle.paper.specs.declared.answer.Ruled.the-variants.{Keeps}
-use Rattle.paper.specs.declared.answer.Span.{Span}
 use Rattle.paper.specs.declared.answer.Span.the-variants.{Part, Refused}
-use Rattle.paper.specs.Sizes.{sizesOf, capacityOf, startOf}
+use Rattle.paper.specs.Sizes.{sizesOf, startOf}
 use Rattle.paper.specs.Index.{runOf, shownOf, Sound}
 use Rattle.paper.specs.Scan.{ruledOf, partOf}
 use Rattle.paper.specs.Look.{noSlot, noScan, slotChecks, readIn, readOf}

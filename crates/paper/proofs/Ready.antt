@@ -1,13 +1,12 @@
 -- A job just begun on a file that opens: the file after any number of its writes opens, and what its slots then show.
-use Prim.Native.Nat.{ℕ, zero, suc, _+_, _-_, _*_, _/_, _%_, _≤_, _<_}
+use Prim.Native.Nat.{ℕ, suc, _+_, _*_, _≤_, _<_}
 use mathlib.Core.Path.{_≡_, refl, sym, _∙_, ap, subst}
-use mathlib.Core.Bool.{Bool, true, false, cond}
-use mathlib.Core.List.{List, [], _∷_, _++_}
+use mathlib.Core.List.{List}
 use mathlib.Core.Logic.{_≢_, ⊎-elim}
 use native.Mathlib.Omega.{arith}
 use native.Mathlib.Nat.{mod-lt}
-use lib.ListN.{length, take, drop, getD, List·getD-eq-default}
-use lib.Seq.{take-append-le, take-length, take-all}
+use lib.ListN.{length, take, getD, List·getD-eq-default}
+use lib.Seq.{take-append-le, take-all}
 use Rattle.lent.proofs.Lists.{lt-or-ge}
 use Rattle.lent.proofs.Writes.{write-nothing}
 use Rattle.lent.specs.Part.{part, Same}
@@ -17,15 +16,15 @@ use Rattle.paper.specs.declared.sizes.Sizes.{Sizes}
 use Rattle.paper.specs.declared.sizes.Run.{Run}
 use Rattle.paper.specs.declared.job.Job.{Job}
 use Rattle.paper.specs.Sizes.{bootBytes, capacityOf, startOf, homeOf}
-use Rattle.paper.specs.Index.{runOf, shownOf, entryAt, Lies, Laid, Booted, Sound}
-use Rattle.paper.specs.Store.{Write, perform, countOf, paddedOf, dataWrites, sizesAfter, entryAfter, bootWrite, entryWrite, writesOf}
+use Rattle.paper.specs.Index.{runOf, shownOf, entryAt, Lies, Sound}
+use Rattle.paper.specs.Store.{Write, perform, countOf, paddedOf, dataWrites, sizesAfter, entryAfter, writesOf}
 use Rattle.paper.specs.Step.{noWrite}
-use Rattle.paper.proofs.Sizing.{head-long, home-in}
-use Rattle.paper.proofs.Opening.{lies-end, lies-past}
+use Rattle.paper.proofs.Sizing.{head-long}
+use Rattle.paper.proofs.Opening.{lies-past}
 use Rattle.paper.proofs.Writes.{length-rows, length-writes, writes-boot, writes-entry}
 use Rattle.paper.proofs.Encoding.{statedBy, length-boot}
 use Rattle.paper.proofs.Frame.{Frame, Kept, kept-then, frame-kept, frame-sound}
-use Rattle.paper.proofs.Free.{performs, performs-append, performs-suc, Every, every-take, Free, frame-refl, frame-writes}
+use Rattle.paper.proofs.Free.{performs, performs-suc, Every, every-take, Free, frame-refl, frame-writes}
 use Rattle.paper.proofs.Bootstrap.{Covers, covers-kept, boot-kept, boot-renewed, boot-there, boot-length}
 use Rattle.paper.proofs.IndexLaw.{Alone, index-sound, index-length, index-head, run-new, shown-new, shown-other, entry-new, entry-other}
 

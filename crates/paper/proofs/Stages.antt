@@ -1,31 +1,27 @@
 -- A job just begun on a file that opens, step by step: each step performs the next of its writes, and after the last the change is confirmed.
-use Prim.Native.Nat.{ℕ, zero, suc, _+_, _-_, _*_, _≤_, _<_, min}
-use mathlib.Core.Path.{_≡_, refl, sym, _∙_, ap, subst}
-use mathlib.Core.Bool.{Bool, true, false, cond}
-use mathlib.Core.List.{List, [], _∷_, _++_}
-use mathlib.Core.Logic.{_≢_, ⊎-elim}
+use Prim.Native.Nat.{ℕ, suc, _+_, _≤_, _<_, min}
+use mathlib.Core.Path.{_≡_, refl, sym, _∙_, ap}
+use mathlib.Core.Bool.{true, cond}
+use mathlib.Core.List.{List}
+use mathlib.Core.Logic.{⊎-elim}
 use native.Mathlib.Omega.{arith}
 use borrow.Author.Tests.{le-leb, lt-leb}
 use lib.Dec.{leb}
-use lib.ListN.{length, take, getD}
-use Rattle.lent.specs.Part.{Same}
+use lib.ListN.{getD}
 use Rattle.lent.proofs.Lists.{lt-or-ge}
 use Rattle.lent.proofs.Parts.{part-same, same-within}
 use Rattle.paper.specs.declared.sizes.Sizes.{Sizes}
 use Rattle.paper.specs.declared.job.Job.{Job}
-use Rattle.paper.specs.declared.job.Step.{Step}
 use Rattle.paper.specs.declared.job.Step.the-variants.{Wrote, Saved, Cleared}
-use Rattle.paper.specs.declared.answer.Opened.the-variants.{Opens}
-use Rattle.paper.specs.Sizes.{sizesOf, bootBytes}
-use Rattle.paper.specs.Index.{openOf, entryAt, Sound}
+use Rattle.paper.specs.Sizes.{bootBytes}
+use Rattle.paper.specs.Index.{entryAt}
 use Rattle.paper.specs.Entry.{entryBytes}
 use Rattle.paper.specs.Store.{Write, perform, countOf, sizesAfter, entryAfter, entryWrite, writesOf}
 use Rattle.paper.specs.Step.{agrees, noWrite, writeAt, stepFile, stepJob, stands, confirmOf, stepAnswer}
 use Rattle.paper.proofs.Sizing.{head-long}
 use Rattle.paper.proofs.Opening.{sound-open}
 use Rattle.paper.proofs.Writes.{writes-entry, writes-past}
-use Rattle.paper.proofs.Agreement.{Agreeing, agreeing, advanced, step-file, job-other, job-boot, job-past, answer-wrote, answer-past, standing}
-use Rattle.paper.proofs.IndexLaw.{same-or}
+use Rattle.paper.proofs.Agreement.{Agreeing, agreeing, step-file, job-other, job-boot, job-past, answer-wrote, answer-past, standing}
 use Rattle.paper.proofs.Ready.{Ready, fileAt, file-next, rows-frame, rows-sound, late-sound, late-len, late-is, end-stays, end-entry, end-rows}
 
 -- the job at another place of its list, expecting these 32 bytes

@@ -5,17 +5,16 @@ use mathlib.Core.Bool.{Bool, true, false, cond}
 use mathlib.Core.List.{List, [], _∷_, _++_}
 use native.Mathlib.Omega.{arith}
 use native.Mathlib.Nat.{add-zero, add-comm, suc-mul, zero-mul, le-div-iff-mul-le, lt-div-mul-add}
-use lib.ListN.{length, take, drop, getD, length-append, length-take, length-drop, List·getD-append, List·getD-eq-default, take-append-drop}
-use lib.Seq.{getD-append-add, getD-take, getD-drop, drop-drop, take-suc, length-take-le, ext-getD}
-use Rattle.lent.specs.Write.{write, pad}
-use Rattle.lent.proofs.Lists.{true≢false}
-use Rattle.lent.proofs.Writes.{length-zeros, length-write, length-pad, pad-at, write-nothing, write-next}
+use lib.ListN.{length, take, drop, getD, length-append, length-take, length-drop, List·getD-append, List·getD-eq-default}
+use lib.Seq.{getD-append-add, getD-take, getD-drop, drop-drop, length-take-le, ext-getD}
+use Rattle.lent.specs.Write.{pad}
+use Rattle.lent.proofs.Writes.{length-zeros, length-pad, pad-at}
 use Rattle.paper.specs.declared.sizes.Sizes.{Sizes}
 use Rattle.paper.specs.declared.job.Job.{Job}
 use Rattle.paper.specs.Sizes.{startOf}
-use Rattle.paper.specs.Store.{Write, perform, recordsFor, countOf, paddedOf, dataFrom, dataWrites, bootWrite, entryWrite, writesOf}
+use Rattle.paper.specs.Store.{Write, recordsFor, countOf, paddedOf, dataFrom, dataWrites, bootWrite, entryWrite, writesOf}
 use Rattle.paper.specs.Step.{noWrite}
-use Rattle.paper.proofs.Sizing.{less, times}
+use Rattle.paper.proofs.Sizing.{times}
 
 -- ---- whole records
 

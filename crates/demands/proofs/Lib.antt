@@ -1,0 +1,10 @@
+pub mod Start
+pub mod Histories
+pub mod Survived
+pub mod Ordered
+pub mod Refusing
+pub mod True
+pub mod Telling
+pub mod Unchanged
+pub mod Filled
+pub mod Single

@@ -1,0 +1,94 @@
+-- An accepted operation, step by step: its job is ready, and file and job after i steps are those that the laws of `paper` speak of.
+use Prim.Native.Nat.{ℕ, zero, suc, _+_, _-_, _*_, _≤_}
+use mathlib.Core.Path.{_≡_, refl, sym, _∙_, ap, subst}
+use mathlib.Core.Bool.{true, cond}
+use mathlib.Core.List.{List, []}
+use native.Mathlib.Omega.{arith}
+use native.Mathlib.Nat.{zero-mul}
+use lib.ListN.{length, drop}
+use lib.Seq.{drop-at}
+use Rattle.lent.specs.Write.{zeros}
+use Rattle.lent.proofs.Lists.{true≢false}
+use Rattle.lent.proofs.Writes.{length-zeros, zeros-append, pad-none}
+use Rattle.paper.specs.declared.sizes.Sizes.{Sizes}
+use Rattle.paper.specs.declared.answer.Opened.the-variants.{Opens}
+use Rattle.paper.specs.declared.answer.Taken.{Taken}
+use Rattle.paper.specs.declared.answer.Taken.the-variants.{Accepted, Refused}
+use Rattle.paper.specs.declared.job.Job.{Job}
+use Rattle.paper.specs.declared.job.Begun.{Begun}
+use Rattle.paper.specs.declared.job.Step.the-variants.{Saved, Cleared}
+use Rattle.paper.specs.Sizes.{sizesOf}
+use Rattle.paper.specs.Index.{openOf}
+use Rattle.paper.specs.Store.{recordsFor, runFrom, placeFor, saveOf, keepOf, clearOf, countOf, paddedOf, entryAfter}
+use Rattle.paper.specs.Step.{stepJob}
+use Rattle.paper.proofs.Opening.{open-reads, open-sound}
+use Rattle.paper.proofs.Encoding.{entry-rest}
+use Rattle.paper.proofs.Ready.{fileAt}
+use Rattle.paper.proofs.Stages.{jobAt, job-start, stage-file, stage-job}
+use Rattle.paper.proofs.Begins.{Begins, save-taken, taken-save, keep-taken, taken-keep, clear-is-taken, taken-is-clear, save-begins, keep-begins, clear-begins}
+use Rattle.demands.specs.History.{Op, save, keep, clear, Whole, begin, scanOf, recordsOf, isAccepted, takes, next, steps, given}
+use Rattle.demands.specs.Survival.{confirmed}
+
+-- the job j of an operation: ready, and with what the operation gives
+pub record Starts (z : Sizes) (f : List ℕ) (op : Op) (j : Job) : Type 0 where
+  pub begins : Begins z f (scanOf op) j
+  pub count : countOf z j ≡ recordsOf z op
+  pub bytes : paddedOf z j (scanOf op) ≡ given z op .records
+  pub entry : drop 8 (entryAfter z j) ≡ given z op .entry
+  pub confirms : (c : ℕ) → cond (j .saves) (Saved 0 c) (Cleared 0 c) ≡ confirmed op c
+
+pub accepts : (a : Taken) → isAccepted a ≡ true → a ≡ Accepted
+accepts Accepted e = refl
+accepts (Refused r) e = absurd (true≢false e refl)
+
+drop-zeros : (m : ℕ) → 8 ≤ m → drop 8 (zeros m) ≡ zeros (m - 8)
+drop-zeros m h =
+    let e : m ≡ 8 + (m - 8) = omega arith in
+    ap (λ (n : ℕ). drop 8 (zeros n)) e ∙ ap (drop 8) (sym (zeros-append 8 (m - 8))) ∙ drop-at (zeros 8) (zeros (m - 8)) 8 (length-zeros 8)
+
+starts-own : (f : List ℕ) (op : Op) → Whole op → takes f op ≡ true → Starts (sizesOf f) f op (begin f op .job)
+starts-own f (save slot scan about) w e =
+    let z : Sizes = sizesOf f in
+    let t = save-taken f slot scan about (accepts (saveOf f slot scan about .answer) e) in
+    subst (λ (b : Begun). Starts z f (save slot scan about) (b .job)) (sym (taken-save f slot scan about t))
+    (record {
+      begins = save-begins f slot scan about w t;
+      count = refl;
+      bytes = refl;
+      entry = entry-rest z (runFrom (placeFor f (length scan)) (recordsFor z (length scan))) about;
+      confirms = λ c. refl;
+    })
+starts-own f (keep scan about) w e =
+    let z : Sizes = sizesOf f in
+    let t = keep-taken f scan about (accepts (keepOf f scan about .answer) e) in
+    subst (λ (b : Begun). Starts z f (keep scan about) (b .job)) (sym (taken-keep f scan about t))
+    (record {
+      begins = keep-begins f scan about w t;
+      count = refl;
+      bytes = refl;
+      entry = entry-rest z (runFrom (placeFor f (length scan)) (recordsFor z (length scan))) about;
+      confirms = λ c. refl;
+    })
+starts-own f (clear slot) w e =
+    let z : Sizes = sizesOf f in
+    let t = clear-is-taken f slot (accepts (clearOf f slot .answer) e) in
+    subst (λ (b : Begun). Starts z f (clear slot) (b .job)) (sym (taken-is-clear f slot t))
+    (record {
+      begins = clear-begins f slot t;
+      count = refl;
+      bytes = pad-none (0 * z .l) [] (omega (arith, zero-mul (z .l)));
+      entry = drop-zeros (z .m) (omega (arith, open-sound (t .opens) .booted .ranged .shape .m-low));
+      confirms = λ c. refl;
+    })
+
+pub starts : (f : List ℕ) (z : Sizes) → openOf f ≡ Opens z → (op : Op) → Whole op → takes f op ≡ true → Starts z f op (begin f op .job)
+starts f z o op w e = subst (λ (y : Sizes). Starts y f op (begin f op .job)) (open-reads f o) (starts-own f op w e)
+
+-- file and job after i steps
+pub steps-are : {z : Sizes} {f scan : List ℕ} {j : Job} → Begins z f scan j → (i : ℕ)
+    → steps scan (record { file = f; job = j }) i ≡ record { file = fileAt z f scan j i; job = jobAt z j i }
+steps-are {z} {f} {scan} {j} B zero = ap (λ (k : Job). record { file = f; job = k }) (sym (job-start z j (B .fresh)))
+steps-are {z} {f} {scan} {j} B (suc i) =
+    ap (next scan) (steps-are B i)
+    ∙ ap (λ (g : List ℕ). record { file = g; job = stepJob (fileAt z f scan j i) scan (jobAt z j i) }) (stage-file (B .ready) (B .agreeing) i)
+    ∙ ap (λ (k : Job). record { file = fileAt z f scan j (suc i); job = k }) (stage-job (B .ready) (B .agreeing) i)

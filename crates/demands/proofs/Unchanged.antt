@@ -1,0 +1,86 @@
+-- Demand 1 holds.
+use Prim.Native.Nat.{ℕ, _+_, _≤_}
+use mathlib.Core.Path.{_≡_, refl, ap}
+use mathlib.Core.Bool.{Bool, true, false, cond}
+use mathlib.Core.List.{List, _∷_, _++_}
+use native.Mathlib.Omega.{arith}
+use borrow.Author.Tests.{ltb-false}
+use lib.Dec.{eqb}
+use lib.ListN.{length}
+use Rattle.lent.specs.Checks.{Check, check, judge}
+use Rattle.lent.proofs.Checks.{judge-fires}
+use Rattle.paper.specs.declared.refusal.Refusal.{Refusal}
+use Rattle.paper.specs.declared.refusal.Refusal.the-variants.{TooShort, OldForm, UnknownForm, OutOfRange, PastEnd, BadEntry, AboveUse, SharedRecord, NoSuchSlot, EmptySlot, BadScan, NoEmptySlot, NoRoom, Disagrees, Differs, BadBlank, TooSmall}
+use Rattle.paper.specs.declared.answer.Taken.the-variants as taken
+use Rattle.paper.specs.declared.entry.Found.{Found}
+use Rattle.paper.specs.declared.job.Job.{Job}
+use Rattle.paper.specs.declared.job.Begun.{Begun}
+use Rattle.paper.specs.declared.job.Step.the-variants as step
+use Rattle.paper.specs.Refusals.{numberOf}
+use Rattle.paper.specs.Sizes.{sizesOf}
+use Rattle.paper.specs.Index.{openChecks, openOf}
+use Rattle.paper.specs.Scan.{partOf}
+use Rattle.paper.specs.Look.{listOf, listChecks, listedOf, listedOut, noSlot, slotChecks, foundOf}
+use Rattle.paper.specs.Store.{blankSizes, blankChecks, blankOf, blankFile, refused, accepted, noJob, saveJob, clearJob, keepSlot, scanChecks, saveOf, keepOf, clearOf, countOf, writesOf}
+use Rattle.paper.specs.Step.{agrees, hasLeft, writeAt, confirmOf, stepFile, stepJob, stepAnswer}
+use Rattle.paper.proofs.Writes.{length-writes}
+use Rattle.paper.proofs.Agreement.{disagreeing, file-refused, job-refused, answer-refused, step-past, job-past}
+use Rattle.demands.specs.Untouched.{Untouched}
+use Rattle.demands.proofs.Refusing.{taken-fires, begun-fires, listed-fires}
+
+-- a call that is refused hands back what its checks say
+begun-none : (cs : List (Check Refusal)) (j : Job) (r : Refusal) → judge refused cs (accepted j) .answer ≡ taken.Refused r → judge refused cs (accepted j) .job ≡ noJob
+begun-none cs j r e = ap (λ (b : Begun). b .job) (judge-fires refused cs (accepted j) r (begun-fires cs j r e))
+
+step-kept : (f scan : List ℕ) (j : Job) (r : Refusal) (a left : Bool) → agrees f scan j ≡ a → hasLeft (sizesOf f) scan j ≡ left
+    → cond a (cond left (step.Wrote (writeAt (sizesOf f) scan j .record-no) (j .written + 1)) (confirmOf f scan j (openOf f))) (step.Refused Disagrees) ≡ step.Refused r
+    → (stepFile f scan j ≡ f) × (stepJob f scan j ≡ j)
+step-kept f scan j r false left p q e = (file-refused f scan j p, job-refused f scan j p)
+step-kept f scan j r true true p q e = let z : _≡_ {A = ℕ} 0 1 = cc in absurd (omega arith)
+step-kept f scan j r true false p q e =
+    let h : countOf (sizesOf f) j + 2 ≤ j .written =
+    omega (arith, ltb-false (j .written) (length (writesOf (sizesOf f) j scan)) q, length-writes (sizesOf f) j scan) in
+    (step-past f scan j (sizesOf f) p refl h, job-past f scan j (sizesOf f) p refl h)
+
+numbered : (r : Refusal) → (1 ≤ numberOf r) × (numberOf r ≤ 17)
+numbered TooShort = (omega arith, omega arith)
+numbered OldForm = (omega arith, omega arith)
+numbered UnknownForm = (omega arith, omega arith)
+numbered OutOfRange = (omega arith, omega arith)
+numbered PastEnd = (omega arith, omega arith)
+numbered (BadEntry slot) = (omega arith, omega arith)
+numbered (AboveUse slot) = (omega arith, omega arith)
+numbered (SharedRecord slot) = (omega arith, omega arith)
+numbered NoSuchSlot = (omega arith, omega arith)
+numbered EmptySlot = (omega arith, omega arith)
+numbered (BadScan reason) = (omega arith, omega arith)
+numbered NoEmptySlot = (omega arith, omega arith)
+numbered NoRoom = (omega arith, omega arith)
+numbered Disagrees = (omega arith, omega arith)
+numbered Differs = (omega arith, omega arith)
+numbered BadBlank = (omega arith, omega arith)
+numbered TooSmall = (omega arith, omega arith)
+
+pub untouched : Untouched
+unfolding blankOf blankFile listedOf listedOut foundOf saveOf keepOf clearOf stepAnswer
+untouched =
+    record {
+      blank = λ f n l m r e.
+          judge-fires (λ (r : Refusal). f) (blankChecks f (blankSizes n l m)) _ r
+          (taken-fires taken.Refused (λ x. x) taken.Accepted (blankChecks f (blankSizes n l m)) (λ q. refl) refl r e);
+      list = λ f out r e. judge-fires (λ (r : Refusal). out) (listChecks f out) _ r (listed-fires (listChecks f out) (length (listOf f)) r e);
+      step-job = λ f scan j r e. step-kept f scan j r (agrees f scan j) (hasLeft (sizesOf f) scan j) refl refl e;
+      save-scan = λ f slot scan about r e.
+          begun-none (openChecks f ++ (noSlot (sizesOf f) slot ∷ scanChecks f scan)) (saveJob f slot scan about) r e;
+      keep-scan = λ f scan about r e.
+          begun-none (openChecks f ++ (check (eqb (keepSlot f) 0) NoEmptySlot ∷ scanChecks f scan)) (saveJob f (keepSlot f) scan about) r e;
+      clear-slot = λ f slot r e. begun-none (slotChecks f slot) (clearJob f slot) r e;
+      no-job = λ f scan. answer-refused f scan noJob (disagreeing f scan noJob (λ a. omega (arith, a .booted .long, a .span)));
+      entry = λ f s r e.
+          ap (λ (x : Found). x .entry) (judge-fires _ (slotChecks f s) _ r (taken-fires _ (λ (x : Found). x .answer) _ (slotChecks f s) (λ q. refl) refl r e));
+      show = λ f s r e. ap (partOf f) e;
+      read = λ f s r e. ap (partOf f) e;
+      class = λ s n r e. ap (partOf s) e;
+      rest = λ s r e. ap (partOf s) e;
+      numbered = numbered;
+    }

@@ -1,0 +1,42 @@
+-- Not empty: there are files that open, and a scan that is accepted, confirmed and read back. A store that refuses everything keeps no promise here.
+use Prim.Native.Nat.{ℕ, _+_, _*_, _≤_}
+use mathlib.Core.Path.{_≡_}
+use mathlib.Core.Bool.{true}
+use mathlib.Core.List.{List, [], _∷_}
+use lib.ListN.{length, replicate}
+use Rattle.paper.specs.declared.answer.Opened.the-variants.{Opens}
+use Rattle.paper.specs.declared.answer.Taken.the-variants.{Accepted}
+use Rattle.paper.specs.declared.job.Step.the-variants.{Saved}
+use Rattle.paper.specs.Sizes.{Shaped}
+use Rattle.paper.specs.Index.{openOf}
+use Rattle.paper.specs.Look.{listOf}
+use Rattle.paper.specs.Store.{blankSizes, blankOf, blankFile}
+use Rattle.demands.specs.History.{save, takes, stateAfter, answerAfter}
+use Rattle.demands.specs.Truth.{ReadsBack}
+
+-- Sizes of the right shape that fit what is lent are blanked.
+abbrev pub Blanks : Type 0
+Blanks = (f : List ℕ) (n l m : ℕ) → Shaped (blankSizes n l m) → n * l ≤ length f → blankOf f n l m ≡ Accepted
+
+-- "D = U = counter = type = 0": an accepted blank opens with the given sizes and lists nothing.
+abbrev pub BlankOpens : Type 0
+BlankOpens =
+    (f : List ℕ) (n l m : ℕ) → blankOf f n l m ≡ Accepted
+    → (openOf (blankFile f n l m) ≡ Opens (blankSizes n l m)) × (listOf (blankFile f n l m) ≡ [])
+
+-- the least scan there is: 13 classes at the words 5, 21, 22 .. 32, HEADLEN 256 and DATALEN 0
+unfoldable pub leastScan : List ℕ
+leastScan =
+    0 ∷ 13 ∷ 0 ∷ 5 ∷ 0 ∷ 21 ∷ 0 ∷ 22 ∷ 0 ∷ 23 ∷ 0 ∷ 24 ∷ 0 ∷ 25 ∷ 0 ∷ 26 ∷ 0 ∷ 27 ∷ 0 ∷ 28 ∷ 0 ∷ 29 ∷ 0 ∷ 30 ∷ 0 ∷ 31 ∷ 0 ∷ 32 ∷ 0 ∷ 0 ∷ 0 ∷ 0 ∷ 64 ∷ 112
+    ∷ replicate 222 0
+
+-- Where a blank file has room for one data record, that scan is saved to slot 1, confirmed at step 4, and read back, with any 54 bytes of entry.
+pub record Kept (g about : List ℕ) : Type 0 where
+  pub taken : takes g (save 1 leastScan about) ≡ true
+  pub saved : answerAfter g (save 1 leastScan about) 3 ≡ Saved 0 3
+  pub reads : ReadsBack (stateAfter g (save 1 leastScan about) 3 .file) 1 leastScan about
+
+abbrev pub BlankKeeps : Type 0
+BlankKeeps =
+    (f : List ℕ) (n l m : ℕ) → blankOf f n l m ≡ Accepted → (n + 1) * l ≤ length f → (about : List ℕ) → length about ≡ 54
+    → Kept (blankFile f n l m) about

@@ -1,0 +1,64 @@
+-- Demand 3: whatever was saved, kept or cleared, and wherever it was cut off, the file opens and every slot shows its last change to reach the index.
+use Prim.Native.Nat.{ℕ, _+_, _≤_, _<_}
+use mathlib.Core.Path.{_≡_}
+use mathlib.Core.Bool.{Bool, true, false}
+use mathlib.Core.List.{List, [], _∷_}
+use Rattle.lent.specs.Lists.{those}
+use Rattle.paper.specs.declared.sizes.Sizes.{Sizes}
+use Rattle.paper.specs.declared.answer.Opened.the-variants.{Opens}
+use Rattle.paper.specs.declared.job.Step.{Step}
+use Rattle.paper.specs.declared.job.Step.the-variants.{Wrote, Saved, Cleared, Refused}
+use Rattle.paper.specs.Sizes.{renewed, capacityOf, recordOf}
+use Rattle.paper.specs.Index.{openOf}
+use Rattle.paper.specs.Look.{listOf}
+use Rattle.demands.specs.History.{Op, save, keep, clear, Whole, begin, recordsOf, slotOf, takes, answerAfter, stepped, reached, heldAt, Holding, Done, Wholes, after, holds}
+
+-- some bytes
+abbrev pub some : List ℕ → Bool
+some [] = false
+some (x ∷ xs) = true
+
+-- the file g opens with z's sizes but for D, U and the counter, every slot holds what h says, and the list is the slots that have bytes, in slot order and
+-- once each
+pub record Survives (z : Sizes) (g : List ℕ) (h : Holding) : Type 0 where
+  pub d : ℕ
+  pub u : ℕ
+  pub c : ℕ
+  pub opens : openOf g ≡ Opens (renewed z d u c)
+  pub shows : (s : ℕ) → 1 ≤ s → s ≤ capacityOf z → heldAt g (renewed z d u c) s ≡ h s
+  pub lists : listOf g ≡ those (λ s. some (h s .records)) (capacityOf z)
+
+-- For every file that opens and every history: "a cut after any record" is a number of steps like any other.
+abbrev pub PowerCut : Type 0
+PowerCut = (f : List ℕ) (z : Sizes) → openOf f ≡ Opens z → (os : List Done) → Wholes os → Survives z (after f os) (holds f os (heldAt f z))
+
+-- ---- confirmation
+
+-- "answers Saved", of a clear "Cleared": no record, and the count
+abbrev pub confirmed : Op → ℕ → Step
+confirmed (save slot scan about) count = Saved 0 count
+confirmed (keep scan about) count = Saved 0 count
+confirmed (clear slot) count = Cleared 0 count
+
+abbrev pub isConfirmed : Step → Bool
+isConfirmed (Wrote r count) = false
+isConfirmed (Saved r count) = true
+isConfirmed (Cleared r count) = true
+isConfirmed (Refused r) = false
+
+-- Every confirmed change has reached the index.
+abbrev pub Confirmed : Type 0
+Confirmed =
+    (f : List ℕ) (z : Sizes) → openOf f ≡ Opens z → (op : Op) → Whole op → takes f op ≡ true → (i : ℕ) → isConfirmed (answerAfter f op i) ≡ true
+    → reached f op (stepped i) ≡ true
+
+-- "The answer to a step says which record it wrote and how many records it has written so far": k data records, record 1, the slot's index record; "So a save
+-- is confirmed at step k+3", a clear "at step 3", and each time when stepped again.
+pub record Answers (f : List ℕ) (z : Sizes) (op : Op) : Type 0 where
+  pub rows : (i : ℕ) → i < recordsOf z op → answerAfter f op i ≡ Wrote (begin f op .job .first + i) (i + 1)
+  pub boot : answerAfter f op (recordsOf z op) ≡ Wrote 1 (recordsOf z op + 1)
+  pub entry : answerAfter f op (recordsOf z op + 1) ≡ Wrote (recordOf z (slotOf f op)) (recordsOf z op + 2)
+  pub confirms : (more : ℕ) → answerAfter f op (recordsOf z op + 2 + more) ≡ confirmed op (recordsOf z op + 2)
+
+abbrev pub Confirms : Type 0
+Confirms = (f : List ℕ) (z : Sizes) → openOf f ≡ Opens z → (op : Op) → Whole op → takes f op ≡ true → Answers f z op

@@ -1,0 +1,40 @@
+-- Demand 1: every refusal of every call leaves every lent byte as it was, and hands back what 01 says.
+use Prim.Native.Nat.{ℕ, _≤_}
+use mathlib.Core.Path.{_≡_}
+use mathlib.Core.List.{List, []}
+use Rattle.paper.specs.declared.refusal.Refusal.{Refusal}
+use Rattle.paper.specs.declared.refusal.Refusal.the-variants.{Disagrees}
+use Rattle.paper.specs.declared.answer.Listed.the-variants as listed
+use Rattle.paper.specs.declared.answer.Span.the-variants as span
+use Rattle.paper.specs.declared.answer.Taken.the-variants as taken
+use Rattle.paper.specs.declared.job.Job.{Job}
+use Rattle.paper.specs.declared.job.Step.the-variants as step
+use Rattle.paper.specs.Refusals.{numberOf}
+use Rattle.paper.specs.Entry.{noEntry}
+use Rattle.paper.specs.Scan.{partOf, classOf, dataOf}
+use Rattle.paper.specs.Look.{listedOf, listedOut, foundOf, showOf, readOf}
+use Rattle.paper.specs.Store.{blankOf, blankFile, noJob, saveOf, keepOf, clearOf}
+use Rattle.paper.specs.Step.{stepFile, stepJob, stepAnswer}
+
+-- Three calls write to what is lent: blank and step to the file, list to what is lent for the list. The others only answer.
+pub record Untouched : Type 0 where
+  -- "writes nothing"
+  pub blank : (f : List ℕ) (n l m : ℕ) (r : Refusal) → blankOf f n l m ≡ taken.Refused r → blankFile f n l m ≡ f
+  pub list : (f out : List ℕ) (r : Refusal) → listedOf f out ≡ listed.Refused r → listedOut f out ≡ out
+  -- "A refused step hands back the job as it was"
+  pub step-job : (f scan : List ℕ) (j : Job) (r : Refusal) → stepAnswer f scan j ≡ step.Refused r → (stepFile f scan j ≡ f) × (stepJob f scan j ≡ j)
+  -- "a refused save, keep or clear hands back a job of zeros"
+  pub save-scan : (f : List ℕ) (slot : ℕ) (scan about : List ℕ) (r : Refusal) → saveOf f slot scan about .answer ≡ taken.Refused r
+      → saveOf f slot scan about .job ≡ noJob
+  pub keep-scan : (f scan about : List ℕ) (r : Refusal) → keepOf f scan about .answer ≡ taken.Refused r → keepOf f scan about .job ≡ noJob
+  pub clear-slot : (f : List ℕ) (slot : ℕ) (r : Refusal) → clearOf f slot .answer ≡ taken.Refused r → clearOf f slot .job ≡ noJob
+  -- which no file takes
+  pub no-job : (f scan : List ℕ) → stepAnswer f scan noJob ≡ step.Refused Disagrees
+  -- an entry of zeros, and the empty part
+  pub entry : (f : List ℕ) (s : ℕ) (r : Refusal) → foundOf f s .answer ≡ taken.Refused r → foundOf f s .entry ≡ noEntry
+  pub show : (f : List ℕ) (s : ℕ) (r : Refusal) → showOf f s ≡ span.Refused r → partOf f (showOf f s) ≡ []
+  pub read : (f : List ℕ) (s : ℕ) (r : Refusal) → readOf f s ≡ span.Refused r → partOf f (readOf f s) ≡ []
+  pub class : (s : List ℕ) (n : ℕ) (r : Refusal) → classOf s n ≡ span.Refused r → partOf s (classOf s n) ≡ []
+  pub rest : (s : List ℕ) (r : Refusal) → dataOf s ≡ span.Refused r → partOf s (dataOf s) ≡ []
+  -- "Every refusal returns its number": one of the table's
+  pub numbered : (r : Refusal) → (1 ≤ numberOf r) × (numberOf r ≤ 17)

@@ -1,0 +1,4 @@
+// Prints the list of the file on standard input.
+fn main() {
+    listing::print(0);
+}

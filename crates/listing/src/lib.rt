@@ -1,0 +1,91 @@
+//! The lister's text.
+ghost use mathlib.Core.Path.{_≡_};
+ghost use Prim.Native.Nat.{_+_, _≤_};
+ghost use lib.ListN.{length};
+ghost use Rattle.lent.specs.Write.{write};
+ghost use Rattle.paper.specs.Lister.{listText};
+ghost use Rattle.index.specs.Row.{rowRun};
+ghost use Rattle.look.specs.Put.{Put};
+ghost use Rattle.look.specs.Rows.{pieceIf, piecesIn};
+ghost use Rattle.listing.specs.Text.{lineFor, refusedOf};
+use libc::STDOUT_FILENO;
+use paper::answer::Opened;
+use paper::refusal::Refusal;
+use paper::sizes::Run;
+
+pub mod put;
+
+// The line of slot `s`, if it holds a scan.
+fn line(out: &mut [u8], at: usize, s: usize, a: Run) -> usize
+    requires { ⌜ at + length (pieceIf lineFor s a) ≤ length (now out) ⌝ }
+    ensures { λ r. ⌜ Put (now (out .entry)) at (pieceIf lineFor s a) (now (out .exit)) r ⌝ }
+{
+    if index::entry::empty(a) {
+        return at;
+    }
+    put::three(&mut *out, at, b"", s, b" ", a.first, b" ", a.last)
+}
+
+// The lines of the slots 1 to `u`, in slot order.
+fn lines(row: &[u32], u: usize, out: &mut [u8], from: usize) -> usize
+    requires { ⌜ (8192 ≤ length (now row)) × (u ≤ 4096) ⌝ }
+    requires { ⌜ from + length (piecesIn lineFor (rowRun (now row)) u) ≤ length (now out) ⌝ }
+    ensures { λ r. ⌜ Put (now (out .entry)) from (piecesIn lineFor (rowRun (now (row .entry))) u) (now (out .exit)) r ⌝ }
+{
+    let mut at = from;
+    let mut i = 0;
+    while i < u {
+        let a = index::row::run_in(row, i + 1);
+        at = line(&mut *out, at, i + 1, a);
+        i += 1;
+    }
+    at
+}
+
+// The one line of a file that is refused.
+fn refused(out: &mut [u8], r: Refusal) -> usize
+    requires { ⌜ 55 ≤ length (now out) ⌝ }
+    ensures { λ k. ⌜ Put (now (out .entry)) 0 (refusedOf r) (now (out .exit)) k ⌝ }
+{
+    put::two(&mut *out, 0, b"refused ", r.number(), b" slot ", r.value())
+}
+
+// The whole text goes to the front of `out`; the answer is its length. No text is longer than 90,000 bytes.
+pub fn text(file: &[u8], out: &mut [u8]) -> usize
+    requires { ⌜ 90000 ≤ length (now out) ⌝ }
+    ensures size { λ r. ⌜ r ≡ length (listText (now (file .entry))) ⌝ }
+    ensures bytes { λ r. ⌜ now (out .exit) ≡ write (now (out .entry)) 0 (listText (now (file .entry))) ⌝ }
+{
+    let mut row = [0u32; 8192];
+    let j = index::judged(file, &mut row);
+    match j {
+        Opened::Refused(r) => refused(&mut *out, r),
+        Opened::Opens(z) => {
+            let n = look::rows::scans(&row, z.u);
+            let at = put::three(
+                &mut *out,
+                0,
+                b"slots ",
+                z.capacity(),
+                b" used ",
+                z.u,
+                b" scans ",
+                n,
+            );
+            lines(&row, z.u, &mut *out, at)
+        }
+    }
+}
+
+// Reads what a descriptor gives, and prints its text, or that it is longer than 65,536 bytes.
+pub fn print(fd: i32) {
+    let mut file = [0u8; 65537];
+    let n = io::read_full(fd, &mut file);
+    if 65536 < n {
+        io::write_all(STDOUT_FILENO, b"too long\n");
+        return;
+    }
+    let mut out = [0u8; 90000];
+    let k = text(&file[..n], &mut out);
+    io::write_all(STDOUT_FILENO, &out[..k]);
+}
