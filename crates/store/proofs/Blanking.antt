@@ -1,7 +1,7 @@
 -- Blank: its refusal, and the file that it leaves.
-use Prim.Native.Nat.{ℕ, _+_, _-_, _*_, _≤_, _<_}
-use mathlib.Core.Path.{_≡_, refl, sym, _∙_, ap}
-use mathlib.Core.Bool.{Bool, true, false, not}
+use Prim.Native.Nat.{ℕ, _*_, _≤_}
+use mathlib.Core.Path.{_≡_}
+use mathlib.Core.Bool.{true, false}
 use mathlib.Core.List.{List}
 use native.Mathlib.Omega.{arith}
 use native.Mathlib.Nat.{mul-le-mul}
@@ -17,8 +17,8 @@ use Rattle.paper.specs.Sizes.{bootBytes, Shaped}
 use Rattle.paper.specs.Store.{blankSizes, blankOf, blankFile}
 use Rattle.paper.proofs.Opening.{shaped-facts}
 use Rattle.paper.proofs.Sizing.{head-long}
-use Rattle.store.specs.Tests.{blankTests, blankFits}
-use Rattle.store.specs.Inside.{Narrow}
+use Rattle.store.specs.Blank.{blankTests, blankFits}
+use Rattle.writes.specs.Inside.{Narrow}
 
 -- how many bytes N records are
 pub head-small : (z : Sizes) → Shaped z → z .n * z .l ≤ 2101248

@@ -1,6 +1,6 @@
 -- A file that was judged and the row that holds its runs: what the calls on the row ask for, and what their answers say of the file.
-use Prim.Native.Nat.{ℕ, _+_, _≤_, _<_}
-use mathlib.Core.Path.{_≡_, refl, sym, _∙_, ap}
+use Prim.Native.Nat.{ℕ, _≤_}
+use mathlib.Core.Path.{_≡_, sym, _∙_, ap}
 use mathlib.Core.Bool.{true}
 use mathlib.Core.List.{List}
 use native.Mathlib.Omega.{arith}
@@ -19,7 +19,7 @@ use Rattle.index.specs.Row.{rowRun, InRow, Judged}
 use Rattle.index.proofs.Rows.{laid-same}
 use Rattle.room.specs.Passing.{Sought}
 use Rattle.room.proofs.Freeing.{empty-row, free-row}
-use Rattle.store.specs.Tests.{slotTests, hasSlot}
+use Rattle.steps.specs.Tests.{slotTests, hasSlot}
 use Rattle.store.specs.Beginning.{Rowing}
 
 pub opens-shape : (f : List ℕ) {z : Sizes} → openOf f ≡ Opens z → Shaped z

@@ -1,34 +1,33 @@
 -- Save, keep and clear: each answer is the definition's, check by check.
 use Prim.Native.Nat.{ℕ, _+_, _-_, _≤_, _<_}
-use mathlib.Core.Path.{_≡_, refl, sym, _∙_, ap, subst}
-use mathlib.Core.Bool.{Bool, true, false, not, cond}
+use mathlib.Core.Path.{_≡_, refl, sym, _∙_, ap}
+use mathlib.Core.Bool.{Bool, true, false, not}
 use mathlib.Core.List.{List, [], _∷_, _++_}
 use native.Mathlib.Omega.{arith}
 use native.Mathlib.Nat.{div-le-self}
 use borrow.Author.Tests.{lt-ltb, le-ltb, eq-eqb, ne-eqb}
-use lib.Dec.{ltb, eqb}
+use lib.Dec.{eqb}
 use lib.ListN.{length}
-use Rattle.lent.specs.Checks.{Check, check, answer, judge, fired}
-use Rattle.lent.proofs.Checks.{judge-fires, fires-here, fires-later}
+use Rattle.lent.specs.Checks.{Check, check, answer, judge}
+use Rattle.lent.proofs.Checks.{judge-fires}
 use Rattle.paper.specs.declared.sizes.Sizes.{Sizes}
 use Rattle.paper.specs.declared.sizes.Run.{Run}
 use Rattle.paper.specs.declared.refusal.Refusal.{Refusal}
 use Rattle.paper.specs.declared.refusal.Refusal.the-variants.{NoSuchSlot, EmptySlot, BadScan, NoEmptySlot, NoRoom}
 use Rattle.paper.specs.declared.answer.Opened.{Opened}
 use Rattle.paper.specs.declared.answer.Opened.the-variants.{Opens, Refused}
-use Rattle.paper.specs.declared.job.Job.{Job}
 use Rattle.paper.specs.declared.job.Begun.{Begun}
-use Rattle.paper.specs.Sizes.{sizesOf, capacityOf, Shaped, Slotted}
+use Rattle.paper.specs.Sizes.{sizesOf, Shaped}
 use Rattle.paper.specs.Index.{runOf, empty, openChecks, openOf}
 use Rattle.paper.specs.Look.{noSlot, noScan}
 use Rattle.paper.specs.Scan.{ruledOf}
 use Rattle.paper.specs.Store.{recordsFor, freePlace, emptySlot, refused, accepted, placeFor, saveJob, clearJob, reasonOf, scanChecks, saveOf, keepSlot, keepOf, clearOf}
-use Rattle.paper.proofs.Opening.{open-reads, then-refused, then-opens, open-sound}
+use Rattle.paper.proofs.Opening.{open-reads, then-refused, then-opens}
 use Rattle.paper.proofs.Rules.{keeps-lengths}
 use Rattle.paper.proofs.Reasons.{no-reason}
-use Rattle.store.specs.Tests.{slotTests, hasSlot}
+use Rattle.steps.specs.Tests.{hasSlot}
 use Rattle.store.specs.Beginning.{refusedBy, savesAt, placedOf}
-use Rattle.store.proofs.Counts.{records-some}
+use Rattle.writes.proofs.Counts.{records-some}
 
 -- a check that fires, or is passed
 fires-first : (t : Bool) (r : Refusal) (cs : List (Check Refusal)) (a : Begun) → t ≡ true → refused r ≡ judge refused (check t r ∷ cs) a

@@ -1,3 +1,2 @@
-pub mod Inside
-pub mod Tests
 pub mod Beginning
+pub mod Blank

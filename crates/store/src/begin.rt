@@ -1,7 +1,4 @@
 //! Save, keep and clear: judged, refused in order, and a job handed back. Nothing is changed yet.
-use super::agree;
-use super::boot;
-use super::entry;
 use paper::answer::Opened;
 use paper::answer::Ruled;
 use paper::answer::Taken;
@@ -11,7 +8,7 @@ use paper::refusal::Refusal;
 use paper::sizes::Sizes;
 ghost use mathlib.Core.Path.{_≡_};
 ghost use Prim.Native.Nat.{_≤_};
-ghost use lib.ListN.{length, take};
+ghost use lib.ListN.{length};
 ghost use Rattle.paper.specs.Store.{accepted, refused, clearJob, reasonOf, saveOf, keepOf, clearOf};
 ghost use Rattle.store.specs.Beginning.{Rowing, refusedBy, savesAt, placedOf};
 
@@ -34,7 +31,7 @@ fn refused(r: Refusal) -> Begun
     }
 }
 
-// A refusal of the file's, handed on.
+// A refusal of the file's, handed on. (A file that opens is not.)
 fn handed_on(o: Opened) -> Begun
     ensures { λ b. ⌜ b ≡ refusedBy o ⌝ }
 {
@@ -54,11 +51,12 @@ fn reason(v: Ruled) -> usize
     }
 }
 
+// A save's job at its place.
 fn save_job(file: &[u8], slot: usize, size: usize, first: usize, about: [u8; 54]) -> Begun
     requires { ⌜ 32 ≤ length (now file) ⌝ }
     ensures { λ b. ⌜ b ≡ accepted (savesAt (now (file .entry)) slot size first about) ⌝ }
 {
-    let b = boot::head(file);
+    let b = writes::boot::head(file);
     Begun {
         answer: Taken::Accepted,
         job: Job {
@@ -74,11 +72,12 @@ fn save_job(file: &[u8], slot: usize, size: usize, first: usize, about: [u8; 54]
     }
 }
 
+// A clear's job looks at neither place nor bytes.
 fn clear_job(file: &[u8], slot: usize) -> Begun
     requires { ⌜ 32 ≤ length (now file) ⌝ }
     ensures { λ b. ⌜ b ≡ accepted (clearJob (now (file .entry)) slot) ⌝ }
 {
-    let b = boot::head(file);
+    let b = writes::boot::head(file);
     Begun {
         answer: Taken::Accepted,
         job: Job {
@@ -103,7 +102,7 @@ fn place(file: &[u8], row: &[u32], z: Sizes, slot: usize, scan: &[u8], about: [u
     if 0 < broken {
         return refused(Refusal::BadScan(broken));
     }
-    let k = entry::records_for(z, scan.len());
+    let k = writes::count::records_for(z, scan.len());
     let first = room::lowest_free(row, z, file.len(), k);
     if first == 0 {
         return refused(Refusal::NoRoom);
@@ -111,6 +110,7 @@ fn place(file: &[u8], row: &[u32], z: Sizes, slot: usize, scan: &[u8], about: [u
     save_job(file, slot, scan.len(), first, about)
 }
 
+// The index is decoded once: the judgement leaves its runs in the row, in which the place is found.
 pub fn saved(file: &[u8], slot: usize, scan: &[u8], about: [u8; 54]) -> Begun
     ensures { λ b. ⌜ b ≡ saveOf (now (file .entry)) slot (now (scan .entry)) about ⌝ }
 {
@@ -119,12 +119,13 @@ pub fn saved(file: &[u8], slot: usize, scan: &[u8], about: [u8; 54]) -> Begun
     let Opened::Opens(z) = o else {
         return handed_on(o);
     };
-    if !agree::has_slot(z, slot) {
+    if !steps::agree::has_slot(z, slot) {
         return refused(Refusal::NoSuchSlot);
     }
     place(file, &row, z, slot, scan, about)
 }
 
+// 12 in place of 9.
 pub fn kept(file: &[u8], scan: &[u8], about: [u8; 54]) -> Begun
     ensures { λ b. ⌜ b ≡ keepOf (now (file .entry)) (now (scan .entry)) about ⌝ }
 {
@@ -140,6 +141,7 @@ pub fn kept(file: &[u8], scan: &[u8], about: [u8; 54]) -> Begun
     place(file, &row, z, slot, scan, about)
 }
 
+// 10 in place of 11 and 13.
 pub fn cleared(file: &[u8], slot: usize) -> Begun
     ensures { λ b. ⌜ b ≡ clearOf (now (file .entry)) slot ⌝ }
 {
@@ -148,7 +150,7 @@ pub fn cleared(file: &[u8], slot: usize) -> Begun
     let Opened::Opens(z) = o else {
         return handed_on(o);
     };
-    if !agree::has_slot(z, slot) {
+    if !steps::agree::has_slot(z, slot) {
         return refused(Refusal::NoSuchSlot);
     }
     if index::entry::empty(index::row::run_in(&row, slot)) {

@@ -1,11 +1,10 @@
 //! A blank file: N records, of which the first begins with the bootstrap and all else is zeros.
-use super::boot;
 use paper::answer::Taken;
 use paper::refusal::Refusal;
 use paper::sizes::Sizes;
 ghost use mathlib.Core.Path.{_≡_};
 ghost use Rattle.paper.specs.Store.{blankOf, blankFile};
-ghost use Rattle.store.specs.Tests.{blankFits};
+ghost use Rattle.store.specs.Blank.{blankFits};
 
 // The sizes are in their ranges, and the file is long enough.
 fn fits(len: usize, z: Sizes) -> bool
@@ -20,6 +19,7 @@ fn fits(len: usize, z: Sizes) -> bool
     true
 }
 
+// One write: the bootstrap and zeros after it. Nothing beyond the N records is touched.
 pub fn blanked(file: &mut [u8], n: usize, l: usize, m: usize) -> Taken
     ensures { λ r. ⌜ r ≡ blankOf (now (file .entry)) n l m ⌝ }
     ensures { λ _. ⌜ now (file .exit) ≡ blankFile (now (file .entry)) n l m ⌝ }
@@ -36,7 +36,7 @@ pub fn blanked(file: &mut [u8], n: usize, l: usize, m: usize) -> Taken
     if !fits(file.len(), z) {
         return Taken::Refused(Refusal::BadBlank);
     }
-    let b = boot::boot_bytes(z);
+    let b = writes::boot::boot_bytes(z);
     lent::write::put_padded(file, 0, n * l, &b);
     Taken::Accepted
 }

@@ -8,14 +8,8 @@ ghost use Rattle.paper.specs.Refusals.{takenSays, stepSays};
 ghost use Rattle.paper.specs.Store.{blankOf, blankFile, saveOf, keepOf, clearOf};
 ghost use Rattle.paper.specs.Step.{stepFile, stepJob, stepAnswer};
 
-mod agree;
 mod begin;
 mod blanks;
-mod boot;
-mod confirm;
-mod entry;
-mod steps;
-mod write;
 
 // N records of L bytes, with M bytes to an index entry, or 16.
 pub fn blank(file: &mut [u8], n: usize, l: usize, m: usize) -> Taken

@@ -30,6 +30,19 @@ pub struct Times {
 }
 
 impl Case {
+    /// The file, in words.
+    pub fn file(&self) -> String {
+        let Plan { slots, used, run, order, room, .. } = self.plan;
+        let runs = if used == 0 { "empty".to_string() } else { format!("{used} used {order}, runs of {run}") };
+        let shares = if self.shares { ", refused 8" } else { "" };
+        format!("{slots} slots, {runs}{shares}, {room} records")
+    }
+
+    /// Call and file.
+    pub fn name(&self) -> String {
+        format!("{}, {}", self.call, self.file())
+    }
+
     /// How often a call judges the index: at its beginning, and a whole job once more when it is confirmed.
     fn judgements(&self) -> usize {
         match self.call {

@@ -8,6 +8,12 @@
 pub mod call;
 pub mod case;
 pub mod clock;
+pub mod closed;
 pub mod file;
+pub mod grow;
 pub mod limit;
 pub mod map;
+pub mod stack;
+pub mod suite;
+pub mod table;
+pub mod targets;

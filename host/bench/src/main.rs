@@ -1,42 +1,69 @@
-//! A first table.
-use bench::call::Call;
-use bench::case::{Case, Line};
-use bench::file::{Order, Plan};
+//! `bench`: the table, the growths, the stack and the verdicts, in less than a minute. `bench --quick` prints the
+//! verdicts alone, in some ten seconds; any other word picks the lines of the table that have it.
+
+use bench::case::Line;
+use bench::{closed, grow, stack, suite, table, targets};
+use std::process::ExitCode;
 use std::time::Duration;
 
-fn main() {
-    let mut lines = Vec::new();
-    let room = 1_000_000;
-    for slots in [1024, 4096] {
-        lines.push(Case { call: Call::Open, plan: Plan { slots, used: 0, run: 1, gap: 0, order: Order::Rising, room }, shares: false });
-        for order in Order::ALL {
-            for run in [1, 8, 128] {
-                lines.push(Case { call: Call::Open, plan: Plan { slots, used: slots, run, gap: 0, order, room }, shares: false });
-            }
+/// How often each line is measured, and for how long each time.
+struct Effort {
+    runs: usize,
+    budget: Duration,
+    growth: Duration,
+}
+
+const QUICK: Effort = Effort { runs: 3, budget: Duration::from_millis(12), growth: Duration::from_millis(60) };
+const WHOLE: Effort = Effort { runs: 7, budget: Duration::from_millis(40), growth: Duration::from_millis(250) };
+
+/// Measures the lines. Each has its turn once in every run, so that the runs of a line lie far apart.
+fn measure(cases: Vec<bench::case::Case>, effort: &Effort) -> Vec<Line> {
+    let mut lines: Vec<Line> = cases.into_iter().map(|case| Line { case, runs: Vec::new() }).collect();
+    for _ in 0..effort.runs {
+        for line in &mut lines {
+            let times = line.case.run(effort.budget);
+            line.runs.push(times);
         }
     }
-    for order in [Order::Rising, Order::Random] {
-        for call in [Call::List, Call::Entry, Call::Show, Call::Read, Call::BeginSave(512), Call::BeginSave(65536), Call::BeginClear, Call::Blank] {
-            lines.push(Case { call, plan: Plan { slots: 4096, used: 4095, run: 8, gap: 0, order, room }, shares: false });
-        }
+    lines
+}
+
+fn main() -> ExitCode {
+    let words: Vec<String> = std::env::args().skip(1).collect();
+    let library = sdd::calls();
+    if words.iter().any(|word| word == closed::WORD) {
+        closed::make(&library);
+        return ExitCode::SUCCESS;
     }
-    for (room, used, run) in [(1000, 256, 1), (100_000, 4000, 8), (1_000_000, 4000, 128)] {
-        for order in [Order::Rising, Order::Random] {
-            for bytes in [512, 4096, 65536] {
-                for call in [Call::Save(bytes), Call::Clear(bytes)] {
-                    lines.push(Case { call, plan: Plan { slots: 4096, used, run, gap: 0, order, room }, shares: false });
-                }
-            }
-        }
+    let quick = words.iter().any(|word| word == "--quick");
+    let picked: Vec<&String> = words.iter().filter(|word| !word.starts_with("--")).collect();
+    let effort = if quick { QUICK } else { WHOLE };
+    let mut cases = if quick { suite::quick() } else { suite::all() };
+    cases.retain(|case| picked.iter().all(|word| case.name().contains(*word)));
+    let lines = measure(cases, &effort);
+    if !quick || !picked.is_empty() {
+        table::print_lines(&lines);
     }
-    let word = std::env::args().nth(1).unwrap_or_default();
-    for case in lines {
-        if !format!("{} {} {} {} r{}", case.call, case.plan.slots, case.plan.order, case.plan.run, case.plan.room).contains(&word) { continue; }
-        let line = Line { case, runs: (0..3).map(|_| case.run(Duration::from_millis(20))).collect() };
-        let p = case.plan;
-        let b = line.beside_plain();
-        let l = line.beside_limit();
-        println!("{:>18} {:>5} {:>7} {:>4} {:>8} room {:>8} lib {:>8.2} plain {:>8.2} limit {:>8.2} | {:>5.2} ({:.2}-{:.2}) | {:>5.2} ({:.2}-{:.2}) | open {:.2} copies {:.2}", case.call.to_string(), p.slots, p.order.to_string(), p.run, p.used, p.room,
-            line.spread(|t| t.library).middle, line.spread(|t| t.plain).middle, line.spread(|t| t.limit).middle, b.middle, b.low, b.high, l.middle, l.low, l.high, line.spread(|t| t.open).middle, line.spread(|t| t.copies).middle);
+    if !picked.is_empty() {
+        return ExitCode::SUCCESS;
     }
+    let mut growths = grow::with_slots("library", &library, effort.growth);
+    if !quick {
+        growths.extend(grow::with_records("library", &library, effort.growth));
+        growths.extend(grow::with_slots("plain", &plain::calls(), effort.growth));
+        growths.push(grow::of_limit(effort.growth));
+        table::print_growths(&growths);
+    }
+    let of_library: Vec<grow::Growth> =
+        growths.into_iter().filter(|growth| growth.what.starts_with("library")).collect();
+    let depths = stack::depths(&library);
+    if !quick {
+        let rows: Vec<Vec<String>> =
+            depths.iter().map(|(call, depth)| vec![call.to_string(), depth.to_string()]).collect();
+        table::print(&["call", "deepest stack, bytes"], &rows);
+    }
+    let deepest = depths.iter().map(|(_, depth)| *depth).max().unwrap_or(0);
+    let left_alone = std::env::current_exe().is_ok_and(|path| closed::is_left_alone(&path));
+    targets::print(&targets::verdicts(&lines, &of_library, deepest, left_alone));
+    ExitCode::SUCCESS
 }

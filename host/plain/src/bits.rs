@@ -4,17 +4,20 @@
 pub struct Bits(Vec<u64>);
 
 /// The bits `low` to `high` of a word, both included.
+#[inline]
 fn mask(low: u64, high: u64) -> u64 {
     (u64::MAX << low) & (u64::MAX >> (63 - high))
 }
 
 impl Bits {
     /// Records up to `highest`, all free.
+    #[inline]
     pub fn new(highest: u64) -> Bits {
         Bits(vec![0; (highest / 64 + 1) as usize])
     }
 
     /// Takes the bits of one word; answers those of them that were taken.
+    #[inline]
     fn take_in(&mut self, word: u64, bits: u64) -> u64 {
         let word = &mut self.0[word as usize];
         let met = *word & bits;
@@ -23,6 +26,7 @@ impl Bits {
     }
 
     /// Takes `first` to `last`; answers whether all of them were free.
+    #[inline]
     pub fn take(&mut self, first: u64, last: u64) -> bool {
         let (low, high) = (first / 64, last / 64);
         if low == high {
@@ -37,6 +41,7 @@ impl Bits {
     }
 
     /// The lowest record from `at` on that is taken (`taken`) or free, at most `end`.
+    #[inline]
     fn next(&self, at: u64, end: u64, taken: bool) -> u64 {
         let flip = if taken { 0 } else { u64::MAX };
         let mut word = at / 64;

@@ -6,6 +6,8 @@ use face::Refusal;
 
 pub type Answer<T> = Result<T, Refusal>;
 
+#[inline]
+
 pub fn refuse<T>(number: u32, value: u32) -> Answer<T> {
     Err(Refusal { number, value })
 }
@@ -24,16 +26,20 @@ pub struct Sizes {
 }
 
 impl Sizes {
+    #[inline]
     fn read(file: &[u8]) -> Sizes {
         let word = |i: usize| u64::from(be32(file, 4 * i));
         Sizes { n: word(0), d: word(1), l: word(2), m: word(3), u: word(4), counter: word(5), kind: word(6) }
     }
+
+    #[inline]
 
     pub fn capacity(&self) -> u64 {
         (self.n - 1) * self.l / self.m
     }
 
     /// Where a slot's entry begins: the index follows record 1, and entries do not cross records.
+    #[inline]
     pub fn home(&self, slot: u64) -> usize {
         (self.l + (slot - 1) * self.m) as usize
     }

@@ -13,9 +13,17 @@ pub struct Run {
 }
 
 impl Run {
-    pub fn at(file: &[u8], sizes: &Sizes, slot: u64) -> Run {
-        let both = be64(file, sizes.home(slot));
+    /// The run at the front of an entry.
+    #[inline]
+    fn of(entry: &[u8]) -> Run {
+        let both = be64(entry, 0);
         Run { first: both >> 32, last: both & 0xffff_ffff }
+    }
+
+    #[inline]
+
+    pub fn at(file: &[u8], sizes: &Sizes, slot: u64) -> Run {
+        Run::of(&file[sizes.home(slot)..])
     }
 
     pub fn is_empty<const X: u32>(&self) -> bool {
@@ -27,6 +35,13 @@ impl Run {
             && (self.first <= self.last || X == 21)
             && self.last <= sizes.n + sizes.d + or::<X, _>(22, 0, 1)
     }
+}
+
+/// The slots from one on, up to another, with their runs: no bounds are checked on the way.
+#[inline]
+fn runs<'a>(file: &'a [u8], sizes: &Sizes, from: u64, to: u64) -> impl Iterator<Item = (u64, Run)> + 'a {
+    let entries = if from <= to { &file[sizes.home(from)..sizes.home(to + 1)] } else { &[] };
+    (from..).zip(entries.chunks_exact(sizes.m as usize).map(Run::of))
 }
 
 /// A file that opens: its sizes, and the records its scans take. There is no mark where each scan lies past those of
@@ -44,8 +59,7 @@ fn foremost<const X: u32>(run: &Run) -> u64 {
 /// How many slots, from the first on, are good and lie past the smaller ones; at most U.
 fn rising<const X: u32>(file: &[u8], sizes: &Sizes) -> u64 {
     let mut top = 0;
-    for slot in 1..=sizes.u {
-        let run = Run::at(file, sizes, slot);
+    for (slot, run) in runs(file, sizes, 1, sizes.u) {
         if run.is_empty::<X>() {
             continue;
         }
@@ -61,8 +75,7 @@ fn rising<const X: u32>(file: &[u8], sizes: &Sizes) -> u64 {
 fn marked<const X: u32>(file: &[u8], sizes: &Sizes, rising: u64) -> Answer<(Bits, u64)> {
     let mut taken = Bits::new(sizes.n + sizes.d + or::<X, _>(22, 0, 1));
     let mut shared = 0;
-    for slot in 1..=sizes.u {
-        let run = Run::at(file, sizes, slot);
+    for (slot, run) in runs(file, sizes, 1, sizes.u) {
         if run.is_empty::<X>() || (X == 21 && run.first > run.last) {
             continue;
         }
@@ -88,10 +101,9 @@ pub fn judge<const X: u32>(file: &[u8]) -> Answer<Judged> {
     if X == 26 && shared != 0 {
         return refuse(8, shared as u32);
     }
-    for slot in sizes.u + or::<X, _>(27, 1, 2)..=sizes.capacity() {
-        if !Run::at(file, &sizes, slot).is_empty::<X>() {
-            return refuse(7, slot as u32);
-        }
+    let mut above = runs(file, &sizes, sizes.u + or::<X, _>(27, 1, 2), sizes.capacity());
+    if let Some((slot, _)) = above.find(|(_, run)| !run.is_empty::<X>()) {
+        return refuse(7, slot as u32);
     }
     if shared != 0 {
         return refuse(8, shared as u32);
@@ -101,5 +113,5 @@ pub fn judge<const X: u32>(file: &[u8]) -> Answer<Judged> {
 
 /// The scans of a file that opens: slot and run, in slot order.
 pub fn listed<'a, const X: u32>(file: &'a [u8], sizes: &'a Sizes) -> impl Iterator<Item = (u64, Run)> + 'a {
-    (1..=sizes.u).map(|slot| (slot, Run::at(file, sizes, slot))).filter(|(_, run)| !run.is_empty::<X>())
+    runs(file, sizes, 1, sizes.u).filter(|(_, run)| !run.is_empty::<X>())
 }

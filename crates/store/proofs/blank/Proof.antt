@@ -1,5 +1,5 @@
 use Rattle.paper.specs.Refusals.{takenSays}
-use mathlib.Core.Path.{_≡_, refl, sym, ap, _∙_}
+use mathlib.Core.Path.{ap}
 use borrow.Author.Needs.{needs}
 use Rattle.store.proofs.blank.Statement.{statement}
 use Rattle.store.proofs.blank.Tie as tie

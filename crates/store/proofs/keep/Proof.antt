@@ -1,6 +1,6 @@
 use Rattle.paper.specs.declared.job.Begun.{Begun}
 use Rattle.paper.specs.Refusals.{takenSays}
-use mathlib.Core.Path.{_≡_, refl, sym, ap, _∙_}
+use mathlib.Core.Path.{ap}
 use borrow.Author.Needs.{needs}
 use Rattle.store.proofs.keep.Statement.{statement}
 use Rattle.store.proofs.keep.Tie as tie

@@ -1,5 +1,4 @@
-use Rattle.store.proofs.Phases.{step-said}
-use mathlib.Core.Path.{_≡_, refl, sym, ap, _∙_}
+use Rattle.steps.proofs.Phases.{step-said}
 use borrow.Author.Needs.{needs}
 use Rattle.store.proofs.step.Statement.{statement}
 use Rattle.store.proofs.step.Tie as tie

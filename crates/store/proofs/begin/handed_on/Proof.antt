@@ -1,4 +1,3 @@
-use mathlib.Core.Path.{_≡_, refl, sym, ap, _∙_}
 use borrow.Author.Needs.{needs}
 use Rattle.store.proofs.begin.handed_on.Statement.{statement}
 use Rattle.store.proofs.begin.handed_on.Tie as tie

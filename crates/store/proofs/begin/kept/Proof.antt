@@ -1,7 +1,7 @@
 use Rattle.paper.proofs.Opening.{open-sound}
 use Rattle.store.proofs.Rooms.{row-kept, empty-there}
 use Rattle.store.proofs.Starting.{keep-out, keep-none, keep-on}
-use mathlib.Core.Path.{_≡_, refl, sym, ap, _∙_}
+use mathlib.Core.Path.{sym, _∙_}
 use native.Mathlib.Omega.{arith}
 use borrow.Author.Needs.{needs}
 use Rattle.store.proofs.begin.kept.Statement.{statement}

@@ -1,7 +1,7 @@
 use Rattle.paper.specs.Store.{reasonOf}
 use Rattle.store.proofs.Rooms.{opens-shape, opens-long, sought, free-there}
 use Rattle.store.proofs.Starting.{bad-scan, no-place, place-found, records-small}
-use mathlib.Core.Path.{_≡_, refl, sym, ap, _∙_}
+use mathlib.Core.Path.{ap, _∙_}
 use borrow.Author.Needs.{needs}
 use Rattle.store.proofs.begin.place.Statement.{statement}
 use Rattle.store.proofs.begin.place.Tie as tie

@@ -1,6 +1,6 @@
 use Rattle.store.proofs.Rooms.{opens-shape, row-kept}
 use Rattle.store.proofs.Starting.{save-out, save-no-slot, save-on}
-use mathlib.Core.Path.{_≡_, refl, sym, ap, _∙_}
+use mathlib.Core.Path.{sym, _∙_}
 use borrow.Author.Tests.{not-true, not-false}
 use native.Mathlib.Omega.{arith}
 use borrow.Author.Needs.{needs}

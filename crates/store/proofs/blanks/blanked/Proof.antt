@@ -1,5 +1,5 @@
 use Rattle.store.proofs.Blanking.{fitting, narrow-blank, blank-refused, blank-accepted}
-use mathlib.Core.Path.{_≡_, refl, sym, ap, _∙_}
+use mathlib.Core.Path.{refl, sym, _∙_}
 use native.Mathlib.Omega.{arith}
 use borrow.Author.Tests.{not-true, not-false}
 use borrow.Author.Needs.{needs}

@@ -1,9 +1,9 @@
 use Prim.Native.Nat.{_*_}
 use Rattle.paper.proofs.Opening.{shaped-facts}
 use Rattle.store.proofs.Blanking.{head-small}
-use mathlib.Core.Path.{_≡_, refl, sym, ap, _∙_}
+use mathlib.Core.Path.{sym, _∙_}
 use native.Mathlib.Omega.{arith}
-use Rattle.store.specs.Tests.{blankTests, blankFits}
+use Rattle.store.specs.Blank.{blankTests, blankFits}
 use Rattle.lent.proofs.Lists.{no-all, yes-all, true≢false}
 use borrow.Author.Tests.{leb-true, le-leb, not-true, not-false}
 use borrow.Author.Needs.{needs}

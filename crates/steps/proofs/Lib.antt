@@ -1,0 +1,3 @@
+pub mod Agreed
+pub mod Confirming
+pub mod Phases

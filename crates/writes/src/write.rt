@@ -1,0 +1,101 @@
+//! The three kinds of a job's writes: a data record, record 1, the slot's entry.
+use super::boot;
+use super::count;
+use super::entry;
+use paper::job::Job;
+use paper::job::Step;
+use paper::job::Stepped;
+use paper::sizes::Sizes;
+ghost use mathlib.Core.Path.{_≡_};
+ghost use Prim.Native.Nat.{_+_, _*_, _≤_, _<_, max};
+ghost use Rattle.lent.specs.Write.{write, pad};
+ghost use Rattle.lent.specs.Part.{part};
+ghost use Rattle.paper.specs.Sizes.{startOf, recordOf, homeOf, bootBytes, renewed};
+ghost use Rattle.paper.specs.Store.{counterAfter, sizesAfter, entryAfter};
+ghost use Rattle.writes.specs.Inside.{Held, Homed, Rowed, wroteOne};
+
+// The answer for the record written, and the job one write on.
+fn wrote(number: usize, j: Job, boot: [u8; 32]) -> Stepped
+    requires { ⌜ j .written ≤ 1000003 ⌝ }
+    ensures { λ r. ⌜ r ≡ wroteOne number j boot ⌝ }
+{
+    let count = j.written + 1;
+    let mut next = j;
+    next.boot = boot;
+    next.written = count;
+    Stepped {
+        answer: Step::Wrote(number, count),
+        job: next,
+    }
+}
+
+// A data record, padded with zeros where the scan ends in it.
+pub fn write_data(file: &mut [u8], scan: &[u8], z: Sizes, j: Job) -> Stepped
+    requires { ⌜ Rowed (now file) z j ⌝ }
+    ensures { λ r. ⌜ r ≡ wroteOne (j .first + j .written) j (j .boot) ⌝ }
+    ensures { λ _. ⌜ now (file .exit) ≡ write (now (file .entry)) (startOf z (j .first + j .written)) (pad (z .l) (part (j .written * z .l) (j .written * z .l + z .l) (now (scan .entry)))) ⌝ }
+{
+    let l = z.l;
+    let first = j.first;
+    let r = first + j.written;
+    let from = j.written * l;
+    let p = lent::part::part(scan, from, from + l);
+    lent::write::put_padded(file, (r - 1) * l, l, p);
+    let b = j.boot;
+    wrote(r, j, b)
+}
+
+fn higher(a: usize, b: usize) -> usize
+    ensures { λ r. ⌜ r ≡ max a b ⌝ }
+{
+    if a < b {
+        return b;
+    }
+    a
+}
+
+// "after all ones comes zero": the counter goes up by a wrapping add.
+fn renew(z: Sizes, d: usize, u: usize) -> Sizes
+    ensures { λ r. ⌜ r ≡ renewed z d u (counterAfter z) ⌝ }
+{
+    let mut y = z;
+    y.d = d;
+    y.u = u;
+    y.counter = std::num::wrapping_add_u32(z.counter, 1);
+    y
+}
+
+// The sizes that the job's bootstrap states.
+fn sizes_after(z: Sizes, j: Job) -> Sizes
+    requires { ⌜ Held z j ⌝ }
+    ensures { λ r. ⌜ r ≡ sizesAfter z j ⌝ }
+{
+    if j.saves {
+        let d = j.first + count::records(z, j) - 1 - z.n;
+        return renew(z, higher(z.d, d), higher(z.u, j.slot));
+    }
+    renew(z, z.d, z.u)
+}
+
+// Record 1: its first 32 bytes, all after them kept.
+pub fn write_boot(file: &mut [u8], z: Sizes, j: Job) -> Stepped
+    requires { ⌜ Homed (now file) z j ⌝ }
+    ensures { λ r. ⌜ r ≡ wroteOne 1 j (bootBytes (sizesAfter z j)) ⌝ }
+    ensures { λ _. ⌜ now (file .exit) ≡ write (now (file .entry)) 0 (bootBytes (sizesAfter z j)) ⌝ }
+{
+    let b = boot::boot_bytes(sizes_after(z, j));
+    lent::write::copy_to(file, 0, &b);
+    wrote(1, j, b)
+}
+
+// The slot's entry, the other bytes of its record kept.
+pub fn write_entry(file: &mut [u8], z: Sizes, j: Job) -> Stepped
+    requires { ⌜ Homed (now file) z j ⌝ }
+    ensures { λ r. ⌜ r ≡ wroteOne (recordOf z (j .slot)) j (j .boot) ⌝ }
+    ensures { λ _. ⌜ now (file .exit) ≡ write (now (file .entry)) (homeOf z (j .slot)) (entryAfter z j) ⌝ }
+{
+    let r = z.record(j.slot);
+    entry::put_entry(file, z, j);
+    let b = j.boot;
+    wrote(r, j, b)
+}

@@ -1,0 +1,58 @@
+//! No call walks the data section: its pages are closed, and the calls are made. One that reads or writes there ends the
+//! process, so this runs in a process of its own.
+
+use crate::call::{Call, Stage};
+use crate::file::{File, L, Order, Plan};
+use crate::suite::MOST;
+use face::Calls;
+use std::process::Command;
+
+/// The word that makes the program do this and nothing else.
+pub const WORD: &str = "--closed";
+
+fn stage(call: Call, order: Order) -> Stage {
+    Stage::new(File::new(Plan { slots: 4096, used: 4000, run: 128, gap: 1, order, room: MOST }), call)
+}
+
+/// All data records.
+fn close_data(stage: &Stage) {
+    stage.file.map.close(stage.file.plan.n() * L..MOST * L);
+}
+
+/// Makes every call with closed pages: all data records for the calls that need none of them, all but the first of its
+/// own for a read, all but its own for a save.
+pub fn make(calls: &Calls) {
+    let needs_none = [
+        Call::Open,
+        Call::List,
+        Call::Entry,
+        Call::Show,
+        Call::Blank,
+        Call::BeginSave(65_536),
+        Call::BeginKeep(65_536),
+        Call::BeginClear,
+        Call::Clear(65_536),
+    ];
+    for order in Order::ALL {
+        for call in needs_none {
+            let mut stage = stage(call, order);
+            close_data(&stage);
+            stage.make(calls, call);
+        }
+        let mut reads = stage(Call::Read, order);
+        let (first, _) = reads.file.run(reads.file.middle());
+        close_data(&reads);
+        reads.file.map.open((first - 1) * L..first * L);
+        reads.make(calls, Call::Read);
+        let mut saves = stage(Call::Save(65_536), order);
+        let place = (saves.free_place(calls) - 1) * L;
+        close_data(&saves);
+        saves.file.map.open(place..place + 65_536);
+        saves.make(calls, Call::Save(65_536));
+    }
+}
+
+/// Whether this program, at `path`, comes through that.
+pub fn is_left_alone(path: &std::path::Path) -> bool {
+    Command::new(path).arg(WORD).status().is_ok_and(|status| status.success())
+}

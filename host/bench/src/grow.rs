@@ -1,0 +1,101 @@
+//! How the cost of a call grows: with the slots, and with the records.
+
+use crate::call::{Call, Stage};
+use crate::clock::{Contender, contest, turns};
+use crate::file::{File, Order, Plan};
+use crate::limit;
+use crate::suite::MOST;
+use face::Calls;
+use std::time::Duration;
+
+/// A scan that goes past every gap.
+const LONG: Call = Call::BeginSave(65_536);
+
+/// One line of growth: what, and the time of each size in microseconds.
+pub struct Growth {
+    pub what: String,
+    pub by: &'static str,
+    pub sizes: Vec<usize>,
+    pub times: Vec<f64>,
+}
+
+impl Growth {
+    /// The slope of the line through the logarithms, by least squares. None where a time is not above nothing, which
+    /// a difference of two times may be.
+    pub fn exponent(&self) -> Option<f64> {
+        if self.times.iter().any(|time| *time <= 0.0) {
+            return None;
+        }
+        let n = self.sizes.len() as f64;
+        let x: Vec<f64> = self.sizes.iter().map(|size| (*size as f64).ln()).collect();
+        let y: Vec<f64> = self.times.iter().map(|time| time.ln()).collect();
+        let (mx, my) = (x.iter().sum::<f64>() / n, y.iter().sum::<f64>() / n);
+        let top: f64 = x.iter().zip(&y).map(|(x, y)| (x - mx) * (y - my)).sum();
+        let bottom: f64 = x.iter().map(|x| (x - mx) * (x - mx)).sum();
+        Some(top / bottom)
+    }
+}
+
+/// The least times of a call on each of the plans, which have their turns one after the other.
+fn times(calls: &Calls, call: Call, plans: &[Plan], budget: Duration) -> Vec<f64> {
+    let mut stages: Vec<Stage> = plans.iter().map(|plan| Stage::new(File::new(*plan), call)).collect();
+    let mut contenders: Vec<Contender> =
+        stages.iter_mut().map(|stage| turns(move || stage.make(calls, call))).collect();
+    contest(&mut contenders, budget)
+}
+
+/// The same of the decoding pass.
+fn decoding(plans: &[Plan], budget: Duration) -> Vec<f64> {
+    let mut files: Vec<File> = plans.iter().map(|plan| File::new(*plan)).collect();
+    let mut contenders: Vec<Contender> = files
+        .iter_mut()
+        .map(|file| {
+            let mut row = vec![0; 2 * file.plan.slots];
+            turns(move || limit::decode(file.map.bytes(), file.plan.slots, &mut row))
+        })
+        .collect();
+    contest(&mut contenders, budget)
+}
+
+/// The lines of one kind of growth, for files of these plans. The free place is what a save's beginning takes beyond an
+/// open.
+fn lines(who: &str, calls: &Calls, plans: &[Plan], by: &'static str, budget: Duration) -> Vec<Growth> {
+    let sizes: Vec<usize> = plans.iter().map(|plan| if by == "slots" { plan.slots } else { plan.room }).collect();
+    let order = plans[0].order;
+    let line = |name: &str, times: Vec<f64>| Growth { what: format!("{who}: {name}, {order}"), by, sizes: sizes.clone(), times };
+    let open = times(calls, Call::Open, plans, budget);
+    let list = times(calls, Call::List, plans, budget);
+    let begin = times(calls, LONG, plans, budget);
+    let place = begin.iter().zip(&open).map(|(begin, open)| begin - open).collect();
+    vec![line("open", open), line("list", list), line("save's beginning", begin), line("free place", place)]
+}
+
+/// With the slots, 256 to 4,096 of them, all full, in each order: a record is free between any two scans, and the scan
+/// to be saved fits in none of these gaps.
+pub fn with_slots(who: &str, calls: &Calls, budget: Duration) -> Vec<Growth> {
+    let mut all = Vec::new();
+    for order in [Order::Rising, Order::Random, Order::Falling] {
+        all.extend(lines(who, calls, &slot_plans(order), "slots", budget));
+    }
+    all
+}
+
+fn slot_plans(order: Order) -> Vec<Plan> {
+    [256, 512, 1024, 2048, 4096].map(|slots| Plan { slots, used: slots, run: 8, gap: 1, order, room: MOST }).to_vec()
+}
+
+/// With the records, 4,000 to 1,000,000 of them, over which 1,024 scans are spread.
+pub fn with_records(who: &str, calls: &Calls, budget: Duration) -> Vec<Growth> {
+    let plans = [4_000, 20_000, 100_000, 500_000, MOST].map(|room| {
+        let empty = Plan { slots: 1024, used: 1024, run: 1, gap: 0, order: Order::Random, room };
+        Plan { gap: (room - empty.n() - 200) / 1024 - 1, ..empty }
+    });
+    lines(who, calls, &plans, "records", budget)
+}
+
+/// The decoding pass with the slots, for comparison: caches alone make it no straight line.
+pub fn of_limit(budget: Duration) -> Growth {
+    let plans = slot_plans(Order::Rising);
+    let sizes = plans.iter().map(|plan| plan.slots).collect();
+    Growth { what: "decoding pass".to_string(), by: "slots", sizes, times: decoding(&plans, budget) }
+}

@@ -1,0 +1,91 @@
+//! The deepest stack of a call: a thread's stack is painted before it starts, and looked at after it has ended.
+
+use crate::call::{Call, Stage};
+use crate::file::{File, Order, Plan};
+use crate::map::Map;
+use crate::suite::MOST;
+use face::Calls;
+use std::ffi::{c_int, c_void};
+use std::hint::black_box;
+use std::mem::MaybeUninit;
+use std::ptr::null_mut;
+
+unsafe extern "C" {
+    fn pthread_attr_init(attr: *mut Attr) -> c_int;
+    fn pthread_attr_setstack(attr: *mut Attr, at: *mut c_void, len: usize) -> c_int;
+    fn pthread_create(
+        thread: *mut usize,
+        attr: *const Attr,
+        start: extern "C" fn(*mut c_void) -> *mut c_void,
+        of: *mut c_void,
+    ) -> c_int;
+    fn pthread_join(thread: usize, answer: *mut *mut c_void) -> c_int;
+}
+
+/// At least as large as any C library's on a 64-bit Linux.
+#[repr(C, align(16))]
+struct Attr([u8; 128]);
+
+const PAINT: u8 = 0xa5;
+const STACK: usize = 2 << 20;
+
+/// What the thread does, and where its frame begins.
+struct Work<'a> {
+    call: &'a mut dyn FnMut(),
+    top: usize,
+}
+
+extern "C" fn start(work: *mut c_void) -> *mut c_void {
+    let mark = 0u8;
+    // SAFETY: `depth` hands over its own work and waits for this thread's end.
+    let work = unsafe { &mut *work.cast::<Work>() };
+    work.top = black_box(&raw const mark) as usize;
+    (work.call)();
+    null_mut()
+}
+
+/// How many bytes of stack the call uses, with the frame of the function that makes it.
+pub fn depth(call: &mut dyn FnMut()) -> usize {
+    let mut stack = Map::new(STACK);
+    stack.bytes().fill(PAINT);
+    let mut work = Work { call, top: 0 };
+    let mut attr = MaybeUninit::<Attr>::uninit();
+    let mut thread = 0;
+    // SAFETY: the stack and the work live until the thread has ended; the attributes are set before they are used.
+    unsafe {
+        let base: *mut c_void = stack.pointer().cast();
+        assert!(pthread_attr_init(attr.as_mut_ptr()) == 0 && pthread_attr_setstack(attr.as_mut_ptr(), base, STACK) == 0);
+        let made = pthread_create(&mut thread, attr.as_ptr(), start, (&raw mut work).cast());
+        assert!(made == 0 && pthread_join(thread, null_mut()) == 0, "no thread");
+    }
+    let base = stack.pointer() as usize;
+    let lowest = stack.bytes().iter().position(|byte| *byte != PAINT).unwrap_or(STACK);
+    work.top - (base + lowest)
+}
+
+/// The deepest stack of each call, over the orders of the index.
+pub fn depths(calls: &Calls) -> Vec<(Call, usize)> {
+    let every = [
+        Call::Open,
+        Call::List,
+        Call::Entry,
+        Call::Show,
+        Call::Read,
+        Call::Blank,
+        Call::BeginSave(65_536),
+        Call::BeginKeep(65_536),
+        Call::BeginClear,
+        Call::Save(65_536),
+        Call::Clear(65_536),
+    ];
+    every
+        .map(|call| {
+            let of = |order| {
+                let plan = Plan { slots: 4096, used: 4000, run: 128, gap: 1, order, room: MOST };
+                let mut stage = Stage::new(File::new(plan), call);
+                depth(&mut || stage.make(calls, call))
+            };
+            (call, Order::ALL.map(of).into_iter().max().unwrap())
+        })
+        .to_vec()
+}

@@ -1,0 +1,98 @@
+//! The targets, each with its value, its limit and whether it is met.
+
+use crate::call::Call;
+use crate::case::{Line, Times};
+use crate::file::Order;
+use crate::grow::Growth;
+use crate::table;
+
+/// A target's verdict.
+pub struct Verdict {
+    pub target: &'static str,
+    pub value: f64,
+    pub limit: f64,
+    /// Where the value was met with.
+    pub place: String,
+}
+
+impl Verdict {
+    pub fn is_met(&self) -> bool {
+        self.value <= self.limit
+    }
+}
+
+/// The worst of these lines.
+fn worst<'a>(
+    target: &'static str,
+    limit: f64,
+    lines: impl Iterator<Item = &'a Line>,
+    of: impl Fn(&Line) -> f64,
+) -> Verdict {
+    let none = Verdict { target, value: 0.0, limit, place: String::new() };
+    lines.fold(none, |worst, line| {
+        let value = of(line);
+        if value <= worst.value {
+            return worst;
+        }
+        Verdict { value, place: format!("{}, {}", line.case.call, line.case.file()), ..worst }
+    })
+}
+
+/// An open of a full index with 4,096 slots that is not refused.
+fn is_full_open(line: &Line) -> bool {
+    let case = &line.case;
+    case.call == Call::Open && case.plan.slots == 4096 && case.plan.used == 4096 && !case.shares
+}
+
+/// A whole save beside what it may take: two opens of the same file and 1.2 times its copies.
+fn save_beside(times: &Times) -> f64 {
+    times.library / (2.0 * times.open + 1.2 * times.copies)
+}
+
+/// All verdicts.
+pub fn verdicts(lines: &[Line], growths: &[Growth], stack: usize, left_alone: bool) -> Vec<Verdict> {
+    let rises = |line: &Line| line.case.plan.order == Order::Rising;
+    let opens = || lines.iter().filter(|line| is_full_open(line));
+    let saves = lines.iter().filter(|line| matches!(line.case.call, Call::Save(_)));
+    let steepest = growths.iter().filter(|growth| growth.by == "slots").filter_map(|growth| {
+        growth.exponent().map(|exponent| (exponent, growth.what.clone()))
+    });
+    let (exponent, what) = steepest.fold((0.0, String::new()), |a, b| if b.0 > a.0 { b } else { a });
+    vec![
+        worst("open of a full index, rising, over the decoding pass", 2.5, opens().filter(|line| rises(line)), |line| {
+            line.beside_limit().middle
+        }),
+        worst("open of a full index, any other order, the same", 6.0, opens().filter(|line| !rises(line)), |line| {
+            line.beside_limit().middle
+        }),
+        worst("any line over plain Rust", 1.1, lines.iter(), |line| line.beside_plain().middle),
+        Verdict { target: "growth with the slots, exponent", value: exponent, limit: 1.1, place: what },
+        worst("a whole save over two opens and 1.2 times its copies", 1.0, saves, |line| {
+            line.spread(save_beside).middle
+        }),
+        Verdict {
+            target: "calls that walk the data section",
+            value: if left_alone { 0.0 } else { 1.0 },
+            limit: 0.0,
+            place: "pages closed".to_string(),
+        },
+        Verdict { target: "deepest stack, KiB", value: stack as f64 / 1024.0, limit: 192.0, place: "any call".to_string() },
+    ]
+}
+
+/// Prints them.
+pub fn print(verdicts: &[Verdict]) {
+    let rows: Vec<Vec<String>> = verdicts
+        .iter()
+        .map(|verdict| {
+            vec![
+                verdict.target.to_string(),
+                format!("{:.2}", verdict.value),
+                format!("{:.2}", verdict.limit),
+                if verdict.is_met() { "met" } else { "NOT MET" }.to_string(),
+                verdict.place.clone(),
+            ]
+        })
+        .collect();
+    table::print(&["target", "value", "limit", "", "worst at"], &rows);
+}
