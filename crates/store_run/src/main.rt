@@ -1,12 +1,8 @@
-//! The run of 01: a blank file, three saves, the list, a save into the records that the second of them left free, and one that finds no room.
-use paper::answer::Listed;
-use paper::answer::Opened;
+//! The run of 01: a blank file, three saves, the list, a save into the records that the third of them left free, and one that finds no room.
 use paper::answer::Taken;
 use paper::job::Job;
 use paper::job::Step;
 use paper::refusal::Refusal;
-use paper::sizes::Sizes;
-ghost use Rattle.paper.specs.Sizes.{Shaped};
 
 fn number(n: usize) {
     io::write_all(1, b" ");
@@ -97,7 +93,7 @@ fn save(file: &mut [u8], slot: usize, bytes: [u8; 1024], size: usize) {
     }
 }
 
-// A scan of thirteen classes in its first 256 bytes. `high` is the upper half of DATALEN.
+// A scan whose first 256 bytes are preamble and classes: 13 classes, at words 5, 21, 22, .. 32, and HEADLEN 256. `high` is the upper half of DATALEN.
 fn scan_of(high: u32) -> [u8; 1024] {
     let mut s = [1u8; 1024];
     lent::write::put32(&mut s, 0, 851973);
@@ -114,53 +110,11 @@ fn scan_of(high: u32) -> [u8; 1024] {
     s
 }
 
-fn line(slot: u32, first: u32, last: u32) {
-    if slot == 0 {
-        return;
-    }
-    io::print_decimal(1, slot as u64);
-    number(first as usize);
-    number(last as usize);
-    io::write_all(1, b"\n");
-}
-
-// The lister's first line.
-fn sizes(z: Sizes, scans: usize)
-    requires { ⌜ Shaped z ⌝ }
-{
-    io::write_all(1, b"slots");
-    number(z.capacity());
-    io::write_all(1, b" used");
-    number(z.u);
-    io::write_all(1, b" scans");
-    number(scans);
-    io::write_all(1, b"\n");
-}
-
-fn head(file: &[u8], scans: usize) {
-    let o = index::judge(file);
-    let Opened::Opens(z) = o else {
-        return;
-    };
-    sizes(z, scans);
-}
-
-// The others.
-fn lines(out: [u32; 48]) {
-    let mut k: usize = 0;
-    while k < 16 {
-        line(out[3 * k], out[3 * k + 1], out[3 * k + 2]);
-        k += 1;
-    }
-}
-
+// What the lister prints of the file.
 fn list(file: &[u8]) {
-    let mut out = [0u32; 48];
-    let n = look::list(file, &mut out);
-    if let Listed::Scans(scans) = n {
-        head(file, scans);
-    }
-    lines(out);
+    let mut out = [0u8; 90000];
+    let n = listing::text(file, &mut out);
+    io::write_all(1, lent::part::part(&out, 0, n));
 }
 
 fn main() {
@@ -168,6 +122,7 @@ fn main() {
     if begins(store::blank(&mut file, 3, 512, 64)) {
         io::write_all(1, b"blank\n");
     }
+    // DATALEN 744, 256 and 768.
     let a = scan_of(1082605568);
     let b = scan_of(1081081856);
     let c = scan_of(1082654720);
