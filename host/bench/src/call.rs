@@ -87,7 +87,7 @@ impl Stage {
 
     /// Makes the call once. A job is undone again: two copies of 96 bytes, for either side.
     pub fn make(&mut self, calls: &Calls, call: Call) {
-        let (at, len) = (self.file.map.pointer(), self.file.map.len());
+        let (at, len) = (self.file.map.pointer(), self.file.map.size());
         let (scan, scan_len) = (self.scan.as_ptr(), self.scan.len());
         let middle = self.file.middle() as u64;
         // SAFETY: every pointer comes with the length of memory that this stage owns.
@@ -118,7 +118,7 @@ impl Stage {
 
     /// A save from its beginning to its last step's answer.
     pub fn save(&mut self, calls: &Calls) -> Stepped {
-        let (at, len) = (self.file.map.pointer(), self.file.map.len());
+        let (at, len) = (self.file.map.pointer(), self.file.map.size());
         let (scan, scan_len) = (self.scan.as_ptr(), self.scan.len());
         // SAFETY: as in `make`.
         let begun = unsafe { (calls.save)(at, len, self.slot(), scan, scan_len, ABOUT.as_ptr()) };
@@ -129,13 +129,13 @@ impl Stage {
     /// A clear, in the same way.
     pub fn clear(&mut self, calls: &Calls) -> Stepped {
         // SAFETY: as in `make`.
-        let begun = unsafe { (calls.clear)(self.file.map.pointer(), self.file.map.len(), self.slot()) };
+        let begun = unsafe { (calls.clear)(self.file.map.pointer(), self.file.map.size(), self.slot()) };
         assert!(begun.why.number == 0, "clear refused: {:?}", begun.why);
         self.steps(calls, begun.job, null(), 0)
     }
 
     fn steps(&mut self, calls: &Calls, mut job: Job, scan: *const u8, scan_len: usize) -> Stepped {
-        let (at, len) = (self.file.map.pointer(), self.file.map.len());
+        let (at, len) = (self.file.map.pointer(), self.file.map.size());
         loop {
             // SAFETY: as in `make`.
             let stepped = unsafe { (calls.step)(at, len, scan, scan_len, job) };
@@ -157,10 +157,9 @@ impl Stage {
 
     /// The first record that a save of this stage's scan would take.
     pub fn free_place(&mut self, calls: &Calls) -> usize {
-        let (at, len) = (self.file.map.pointer(), self.file.map.len());
+        let (at, len) = (self.file.map.pointer(), self.file.map.size());
         // SAFETY: as in `make`.
-        let begun =
-            unsafe { (calls.save)(at, len, self.slot(), self.scan.as_ptr(), self.scan.len(), ABOUT.as_ptr()) };
+        let begun = unsafe { (calls.save)(at, len, self.slot(), self.scan.as_ptr(), self.scan.len(), ABOUT.as_ptr()) };
         begun.job.first as usize
     }
 }

@@ -62,7 +62,12 @@ fn decoding(plans: &[Plan], budget: Duration) -> Vec<f64> {
 fn lines(who: &str, calls: &Calls, plans: &[Plan], by: &'static str, budget: Duration) -> Vec<Growth> {
     let sizes: Vec<usize> = plans.iter().map(|plan| if by == "slots" { plan.slots } else { plan.room }).collect();
     let order = plans[0].order;
-    let line = |name: &str, times: Vec<f64>| Growth { what: format!("{who}: {name}, {order}"), by, sizes: sizes.clone(), times };
+    let line = |name: &str, times: Vec<f64>| Growth {
+        what: format!("{who}: {name}, {order}"),
+        by,
+        sizes: sizes.clone(),
+        times,
+    };
     let open = times(calls, Call::Open, plans, budget);
     let list = times(calls, Call::List, plans, budget);
     let begin = times(calls, LONG, plans, budget);

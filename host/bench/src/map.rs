@@ -39,7 +39,7 @@ impl Map {
         self.base
     }
 
-    pub fn len(&self) -> usize {
+    pub fn size(&self) -> usize {
         self.len
     }
 

@@ -54,7 +54,9 @@ pub fn depth(call: &mut dyn FnMut()) -> usize {
     // SAFETY: the stack and the work live until the thread has ended; the attributes are set before they are used.
     unsafe {
         let base: *mut c_void = stack.pointer().cast();
-        assert!(pthread_attr_init(attr.as_mut_ptr()) == 0 && pthread_attr_setstack(attr.as_mut_ptr(), base, STACK) == 0);
+        assert!(
+            pthread_attr_init(attr.as_mut_ptr()) == 0 && pthread_attr_setstack(attr.as_mut_ptr(), base, STACK) == 0
+        );
         let made = pthread_create(&mut thread, attr.as_ptr(), start, (&raw mut work).cast());
         assert!(made == 0 && pthread_join(thread, null_mut()) == 0, "no thread");
     }

@@ -54,14 +54,18 @@ pub fn verdicts(lines: &[Line], growths: &[Growth], stack: usize, left_alone: bo
     let rises = |line: &Line| line.case.plan.order == Order::Rising;
     let opens = || lines.iter().filter(|line| is_full_open(line));
     let saves = lines.iter().filter(|line| matches!(line.case.call, Call::Save(_)));
-    let steepest = growths.iter().filter(|growth| growth.by == "slots").filter_map(|growth| {
-        growth.exponent().map(|exponent| (exponent, growth.what.clone()))
-    });
+    let steepest = growths
+        .iter()
+        .filter(|growth| growth.by == "slots")
+        .filter_map(|growth| growth.exponent().map(|exponent| (exponent, growth.what.clone())));
     let (exponent, what) = steepest.fold((0.0, String::new()), |a, b| if b.0 > a.0 { b } else { a });
     vec![
-        worst("open of a full index, rising, over the decoding pass", 2.5, opens().filter(|line| rises(line)), |line| {
-            line.beside_limit().middle
-        }),
+        worst(
+            "open of a full index, rising, over the decoding pass",
+            2.5,
+            opens().filter(|line| rises(line)),
+            |line| line.beside_limit().middle,
+        ),
         worst("open of a full index, any other order, the same", 6.0, opens().filter(|line| !rises(line)), |line| {
             line.beside_limit().middle
         }),
@@ -76,7 +80,12 @@ pub fn verdicts(lines: &[Line], growths: &[Growth], stack: usize, left_alone: bo
             limit: 0.0,
             place: "pages closed".to_string(),
         },
-        Verdict { target: "deepest stack, KiB", value: stack as f64 / 1024.0, limit: 192.0, place: "any call".to_string() },
+        Verdict {
+            target: "deepest stack, KiB",
+            value: stack as f64 / 1024.0,
+            limit: 192.0,
+            place: "any call".to_string(),
+        },
     ]
 }
 

@@ -7,7 +7,6 @@ use face::Refusal;
 pub type Answer<T> = Result<T, Refusal>;
 
 #[inline]
-
 pub fn refuse<T>(number: u32, value: u32) -> Answer<T> {
     Err(Refusal { number, value })
 }
@@ -33,7 +32,6 @@ impl Sizes {
     }
 
     #[inline]
-
     pub fn capacity(&self) -> u64 {
         (self.n - 1) * self.l / self.m
     }

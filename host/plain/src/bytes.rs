@@ -1,25 +1,21 @@
 //! Big-endian numbers in lent bytes.
 
 #[inline]
-
 pub fn be16(bytes: &[u8], at: usize) -> i16 {
     i16::from_be_bytes(bytes[at..at + 2].try_into().unwrap())
 }
 
 #[inline]
-
 pub fn be32(bytes: &[u8], at: usize) -> u32 {
     u32::from_be_bytes(bytes[at..at + 4].try_into().unwrap())
 }
 
 #[inline]
-
 pub fn be64(bytes: &[u8], at: usize) -> u64 {
     u64::from_be_bytes(bytes[at..at + 8].try_into().unwrap())
 }
 
 #[inline]
-
 pub fn put32(bytes: &mut [u8], at: usize, number: u64) {
     bytes[at..at + 4].copy_from_slice(&(number as u32).to_be_bytes());
 }

@@ -21,7 +21,6 @@ impl Run {
     }
 
     #[inline]
-
     pub fn at(file: &[u8], sizes: &Sizes, slot: u64) -> Run {
         Run::of(&file[sizes.home(slot)..])
     }
