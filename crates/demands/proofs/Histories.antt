@@ -9,7 +9,7 @@ use borrow.Author.Tests.{le-leb, lt-leb, eq-eqb, ne-eqb}
 use lib.Dec.{leb}
 use lib.ListN.{drop}
 use Rattle.lent.specs.Lists.{also}
-use Rattle.lent.proofs.Lists.{lt-or-ge}
+use Rattle.lent.proofs.Lists.{lt-or-ge, same-or}
 use Rattle.paper.specs.declared.sizes.Sizes.{Sizes}
 use Rattle.paper.specs.declared.answer.Opened.the-variants.{Opens}
 use Rattle.paper.specs.declared.job.Job.{Job}
@@ -18,7 +18,6 @@ use Rattle.paper.specs.Index.{shownOf, entryAt, openOf, Sound}
 use Rattle.paper.specs.Store.{countOf, sizesAfter}
 use Rattle.paper.proofs.Opening.{sound-open, open-sound}
 use Rattle.paper.proofs.Frame.{Kept}
-use Rattle.paper.proofs.IndexLaw.{same-or}
 use Rattle.paper.proofs.Ready.{fileAt, rows-sound, rows-kept, boot-sound, boot-keeps, end-sound, end-stays, end-entry, end-shown, end-others, end-entries}
 use Rattle.demands.specs.History.{Op, Whole, scanOf, recordsOf, slotOf, takes, State, stateAfter, Cut, stepsOf, run, reached, Held, heldAt, given, Holding, put, change, Done, Wholes, after, holds}
 use Rattle.demands.proofs.Start.{Starts, starts, steps-are}

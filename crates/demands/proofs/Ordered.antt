@@ -8,7 +8,7 @@ use borrow.Author.Tests.{ltb-true, ltb-false, eqb-true, eqb-false, lt-ltb, eq-eq
 use lib.Dec.{ltb}
 use Rattle.lent.specs.Checks.{Check, check, clear, fires, fired}
 use Rattle.lent.specs.Least.{least}
-use Rattle.lent.proofs.Lists.{true≢false, not-so, all-true}
+use Rattle.lent.proofs.Lists.{true≢false, not-so, is-so, all-true}
 use Rattle.lent.proofs.Leasts.{lowest-least, none-least, test-none}
 use Rattle.lent.proofs.Checks.{clear≢fires, fires-same, all-clear, judge-clear}
 use Rattle.paper.specs.declared.sizes.Sizes.{Sizes}
@@ -17,16 +17,9 @@ use Rattle.paper.specs.declared.refusal.Refusal.{Refusal}
 use Rattle.paper.specs.declared.answer.Opened.the-variants as opened
 use Rattle.paper.specs.declared.answer.Opened.the-variants.{Opens}
 use Rattle.paper.specs.Sizes.{sizesOf, capacityOf, bootChecks}
-use Rattle.paper.specs.Index.{runOf, empty, shares, sharer, badAt, aboveAt, sharedAt, lowest, indexChecks, openChecks, bootOf, indexOf, Lies, Laid, Booted, Sound}
+use Rattle.paper.specs.Index.{runOf, Full, shares, sharer, badAt, aboveTests, aboveAt, sharedAt, lowest, indexChecks, openChecks, bootOf, indexOf, Lies, Laid, Booted, Sound}
 use Rattle.paper.proofs.Opening.{range-facts, facts-range, good-lies, lies-good, above-facts, shared-facts, shares-common, common-shares, share-facts, full-facts, boot-sound, index-laid}
-use Rattle.demands.specs.Causes.{One, given, passed, Least, named, none, Nothing, Shared, Full, IndexOrder, OpenOrder}
-
-pub not-false-is : {t : Bool} → (t ≡ false → ⊥) → t ≡ true
-not-false-is {t} h = go t h
-  where
-    go : (b : Bool) → (b ≡ false → ⊥) → b ≡ true
-    go true h = refl
-    go false h = absurd (h refl)
+use Rattle.demands.specs.Causes.{One, given, passed, Least, named, none, Nothing, Shared, IndexOrder, OpenOrder}
 
 -- whichever check fires, it is given in this order
 pub record Meets (cs : List (Check Refusal)) (order : Refusal → Type 0) : Type 0 where
@@ -90,12 +83,12 @@ module _ (z : Sizes) (run : ℕ → Run) where
 
   is-shared : (s : ℕ) → Shared run s → sharedAt run s ≡ true
   is-shared s h =
-      not-false-is (λ e. shared-facts run s e (h .other) (h .low) (h .smaller) (common-shares (run s) (run (h .other)) (h .at) (h .counted) (h .here .0) (h .here .1) (h .there .0) (h .there .1)))
+      is-so (λ e. shared-facts run s e (h .other) (h .low) (h .smaller) (common-shares (run s) (run (h .other)) (h .at) (h .counted) (h .here .0) (h .here .1) (h .there .0) (h .there .1)))
 
-  above-is : (s : ℕ) → aboveAt z run s ≡ true → (z .u < s) × Full run s
+  above-is : (s : ℕ) → aboveAt z run s ≡ true → (z .u < s) × Full (run s)
   unfolding aboveAt
   above-is s e =
-      let t = all-true (ltb (z .u) s ∷ not (empty (run s)) ∷ []) e in
+      let t = all-true (aboveTests z run s) e in
       (ltb-true _ _ (t .0), full-facts (run s) (not-true _ (t .1 .0)))
 
   laid : fired (indexChecks z run) ≡ clear → Laid z run
@@ -105,9 +98,9 @@ module _ (z : Sizes) (run : ℕ → Run) where
   -- what follows may lean on the index as laid
   pub index-order : {ds : List (Check Refusal)} {rest : Refusal → Type 0} → (Laid z run → Meets ds rest) → Meets (indexChecks z run ++ ds) (IndexOrder z run rest)
   index-order k =
-      lowest-one (badAt z run) (z .u) (λ s a b t h. true≢false t (lies-good z run s h)) (λ s a b h. not-false-is (λ e. h (good-lies z run s e)))
+      lowest-one (badAt z run) (z .u) (λ s a b t h. true≢false t (lies-good z run s h)) (λ s a b h. is-so (λ e. h (good-lies z run s e)))
       (λ good.
-      lowest-one (aboveAt z run) (capacityOf z) (λ s a b t. above-is s t) (λ s a b h. not-false-is (λ e. omega (arith, above-facts z run s e (h .0), h .1)))
+      lowest-one (aboveAt z run) (capacityOf z) (λ s a b t. above-is s t) (λ s a b h. is-so (λ e. omega (arith, above-facts z run s e (h .0), h .1)))
       (λ over.
       lowest-one (sharedAt run) (z .u)
       (λ s a b t. shared-is (λ s a b. good-lies z run s (not-so (test-none (badAt z run) (z .u) good s a b))) s a b t) (λ s a b h. is-shared s h)

@@ -1,5 +1,5 @@
 -- Demand 2, of the refusals: every call gives each only under its condition, and in order.
-use Prim.Native.Nat.{ℕ, _+_, _*_, _≤_, _<_, max}
+use Prim.Native.Nat.{ℕ, _+_, _≤_, _<_, max}
 use mathlib.Core.Path.{_≡_, refl, sym, _∙_, ap, subst}
 use mathlib.Core.Bool.{Bool, true, false, not, cond}
 use mathlib.Core.List.{List, [], _∷_, _++_}
@@ -9,9 +9,9 @@ use lib.Dec.{ltb, leb, eqb}
 use lib.ListN.{length}
 use Rattle.lent.specs.Checks.{Check, check, Fired, clear, fires, fired, answer, judge}
 use Rattle.lent.specs.Lists.{all}
-use Rattle.lent.proofs.Lists.{true≢false, all-true, true-all}
+use Rattle.lent.proofs.Lists.{is-so, true≢false, all-true, true-all}
 use Rattle.lent.proofs.Leasts.{lowest-least, none-least}
-use Rattle.lent.proofs.Checks.{fires-here, fires-same, fires-append}
+use Rattle.lent.proofs.Checks.{judge-refused, fires-here, fires-same, fires-append}
 use Rattle.paper.specs.declared.sizes.Sizes.{Sizes}
 use Rattle.paper.specs.declared.refusal.Refusal.{Refusal}
 use Rattle.paper.specs.declared.refusal.Refusal.the-variants.{NoSuchSlot, NoEmptySlot, BadScan, BadBlank, Disagrees, Differs}
@@ -28,11 +28,11 @@ use Rattle.paper.specs.declared.entry.Found.{Found}
 use Rattle.paper.specs.declared.job.Job.{Job}
 use Rattle.paper.specs.declared.job.Begun.{Begun}
 use Rattle.paper.specs.declared.job.Step.the-variants as step
-use Rattle.paper.specs.Sizes.{sizesOf, capacityOf, startOf, roomOf, shaped}
-use Rattle.paper.specs.Index.{runOf, empty, shownOf, openChecks, openOf, Lies, Sound}
+use Rattle.paper.specs.Sizes.{sizesOf, capacityOf, startOf, roomOf}
+use Rattle.paper.specs.Index.{runOf, empty, Full, shownOf, openChecks, openOf, Lies, Sound}
 use Rattle.paper.specs.Scan.{startsOf, classesOf, classIn, ruledOf, ofRuled, classOf, dataOf}
 use Rattle.paper.specs.Look.{listOf, listChecks, listedOf, noSlot, slotChecks, foundOf, showOf, readIn, readOf}
-use Rattle.paper.specs.Store.{blankSizes, blankChecks, blankOf, recordsFor, freeAt, freePlace, emptySlot, refused, accepted, placeFor, saveJob, clearJob, keepSlot, reasonOf, scanChecks, saveOf, keepOf, clearOf, writesOf}
+use Rattle.paper.specs.Store.{blankSizes, blankTests, blankChecks, blankOf, recordsFor, freeAt, freePlace, emptySlot, refused, accepted, placeFor, saveJob, clearJob, keepSlot, reasonOf, scanChecks, saveOf, keepOf, clearOf, writesOf}
 use Rattle.paper.specs.Step.{agrees, hasLeft, writeAt, stands, confirmed, confirmOf, stepAnswer}
 use Rattle.paper.proofs.Opening.{shaped-facts, facts-shaped, full-facts, facts-full, open-fires, open-reads, then-refused, then-opens}
 use Rattle.paper.proofs.Rules.{keeps-lengths}
@@ -42,9 +42,9 @@ use Rattle.paper.proofs.Agreement.{agreed, agreeing, Standing, stood, standing}
 use Rattle.paper.proofs.Free.{FreeAt, facts-free, place-free, free-nobody}
 use Rattle.paper.proofs.Blank.{Blankable}
 use Rattle.paper.proofs.Begins.{InIndex, slot-facts, facts-slot}
-use Rattle.demands.specs.Causes.{One, given, passed, Rules, broken, kept, Nothing, Full, OpenOrder, SlotOrder, FreeRun, NoPlace, ScanOrder, StepOrder}
+use Rattle.demands.specs.Causes.{One, given, passed, Rules, broken, kept, Nothing, OpenOrder, SlotOrder, FreeRun, NoPlace, ScanOrder, StepOrder}
 use Rattle.demands.specs.Truth.{Refusals}
-use Rattle.demands.proofs.Ordered.{not-false-is, Meets, one, nothing, open-order}
+use Rattle.demands.proofs.Ordered.{Meets, one, nothing, open-order}
 
 -- ---- which check fired
 
@@ -60,18 +60,14 @@ module _ {A : Type 0} (refuse : Refusal → A) (says : A → Taken) (a : A) (cs 
           same : (s r : Refusal) → taken.Refused s ≡ taken.Refused r → s ≡ r
           same s r e = cc
 
-span-fires : (cs : List (Check Refusal)) (a b : ℕ) (r : Refusal) → judge span.Refused cs (span.Part a b) ≡ span.Refused r → fired cs ≡ fires r
-span-fires cs a b r e = go (fired cs) e
-  where
-    go : (x : Fired Refusal) → answer span.Refused (span.Part a b) x ≡ span.Refused r → x ≡ fires r
-    go clear e = let z : _≡_ {A = ℕ} 0 1 = cc in absurd (omega arith)
-    go (fires s) e = ap fires cc
-
 span-same : (q r : Refusal) → span.Refused q ≡ span.Refused r → q ≡ r
 span-same q r e = cc
 
 span-never : (a b : ℕ) (r : Refusal) → span.Part a b ≡ span.Refused r → ⊥
 span-never a b r e = let z : _≡_ {A = ℕ} 0 1 = cc in omega arith
+
+span-fires : (cs : List (Check Refusal)) (a b : ℕ) (r : Refusal) → judge span.Refused cs (span.Part a b) ≡ span.Refused r → fired cs ≡ fires r
+span-fires cs a b r e = judge-refused span.Refused cs (span.Part a b) r span-same (span-never a b r) e
 
 part-never : (t : Bool) (a b c d : ℕ) (r : Refusal) → cond t (span.Part a b) (span.Part c d) ≡ span.Refused r → ⊥
 part-never true a b c d r e = span-never a b r e
@@ -88,24 +84,26 @@ pub begun-fires : (cs : List (Check Refusal)) (j : Job) (r : Refusal) → judge 
 begun-fires cs j r e = taken-fires refused (λ (b : Begun). b .answer) (accepted j) cs (λ q. refl) refl r e
 
 pub listed-fires : (cs : List (Check Refusal)) (n : ℕ) (r : Refusal) → judge listed.Refused cs (listed.Scans n) ≡ listed.Refused r → fired cs ≡ fires r
-listed-fires cs n r e = go (fired cs) e
+listed-fires cs n r e = judge-refused listed.Refused cs (listed.Scans n) r listed-same listed-never e
   where
-    go : (x : Fired Refusal) → answer listed.Refused (listed.Scans n) x ≡ listed.Refused r → x ≡ fires r
-    go clear e = let z : _≡_ {A = ℕ} 0 1 = cc in absurd (omega arith)
-    go (fires s) e = ap fires cc
+    listed-same : (q r : Refusal) → listed.Refused q ≡ listed.Refused r → q ≡ r
+    listed-same q r e = cc
+
+    listed-never : listed.Scans n ≡ listed.Refused r → ⊥
+    listed-never e = let z : _≡_ {A = ℕ} 0 1 = cc in omega arith
 
 -- ---- 9, 10, 11, 13
 
 slot-one : (z : Sizes) (s : ℕ) {cs : List (Check Refusal)} {rest : Refusal → Type 0} → Meets cs rest
     → Meets (noSlot z s ∷ cs) (One (InIndex z s → ⊥) NoSuchSlot rest)
-slot-one z s k = one (λ t h. true≢false t (facts-slot z s h)) (λ h. not-false-is (λ e. h (slot-facts z s e))) (λ e. k)
+slot-one z s k = one (λ t h. true≢false t (facts-slot z s h)) (λ h. is-so (λ e. h (slot-facts z s e))) (λ e. k)
 
 slot-order : (f : List ℕ) (s : ℕ) {ds : List (Check Refusal)} {rest : Refusal → Type 0} → Meets ds rest → Meets (slotChecks f s ++ ds) (SlotOrder f s rest)
 slot-order f s k =
     open-order f
     (λ S.
     slot-one (sizesOf f) s
-    (one (λ t h. true≢false t (facts-full (runOf f (sizesOf f) s) h)) (λ h. not-false-is (λ e. h (full-facts (runOf f (sizesOf f) s) e))) (λ e. k)))
+    (one (λ t h. true≢false t (facts-full (runOf f (sizesOf f) s) h)) (λ h. is-so (λ e. h (full-facts (runOf f (sizesOf f) s) e))) (λ e. k)))
 
 -- the check of a scan's rules
 abbrev ruleCheck : List ℕ → Bool → Check Refusal
@@ -173,12 +171,12 @@ scan-order f scan S =
     rules-one scan true
     (λ e.
     let long : 256 ≤ length scan = keeps-lengths (no-reason scan true e) .long in
-    one (λ t. no-place f scan S long (eqb-true _ _ t)) (λ h. not-false-is (λ q. some-place f scan S long (eqb-false _ _ q) h)) (λ q. nothing))
+    one (λ t. no-place f scan S long (eqb-true _ _ t)) (λ h. is-so (λ q. some-place f scan S long (eqb-false _ _ q) h)) (λ q. nothing))
 
 -- 12: every slot is full
 module _ (f : List ℕ) where
   abbrev AllFull : Type 0
-  AllFull = (s : ℕ) → 1 ≤ s → s ≤ capacityOf (sizesOf f) → Full (runOf f (sizesOf f)) s
+  AllFull = (s : ℕ) → 1 ≤ s → s ≤ capacityOf (sizesOf f) → Full (runOf f (sizesOf f) s)
 
   all-full : keepSlot f ≡ 0 → AllFull
   unfolding emptySlot
@@ -192,15 +190,15 @@ module _ (f : List ℕ) where
       true≢false (l .takes) (facts-full (runOf f (sizesOf f) (keepSlot f)) (h (keepSlot f) (l .low) (l .high)))
 
   keep-one : {cs : List (Check Refusal)} {rest : Refusal → Type 0} → Meets cs rest → Meets (check (eqb (keepSlot f) 0) NoEmptySlot ∷ cs) (One AllFull NoEmptySlot rest)
-  keep-one k = one (λ t. all-full (eqb-true (keepSlot f) 0 t)) (λ h. not-false-is (λ e. some-empty (eqb-false (keepSlot f) 0 e) h)) (λ e. k)
+  keep-one k = one (λ t. all-full (eqb-true (keepSlot f) 0 t)) (λ h. is-so (λ e. some-empty (eqb-false (keepSlot f) 0 e) h)) (λ e. k)
 
 -- 16
 blank-order : (f : List ℕ) (z : Sizes) → Meets (blankChecks f z) (One (Blankable f z → ⊥) BadBlank Nothing)
 blank-order f z =
-    one (λ t h. true≢false (true-all (shaped z ∷ leb (z .n * z .l) (length f) ∷ []) (facts-shaped z (h .shape), (le-leb _ _ (h .fits), tt))) (not-true _ t))
+    one (λ t h. true≢false (true-all (blankTests (length f) z) (facts-shaped z (h .shape), (le-leb _ _ (h .fits), tt))) (not-true _ t))
     (λ h.
-    not-false-is (λ e.
-    let t = all-true (shaped z ∷ leb (z .n * z .l) (length f) ∷ []) (not-false _ e) in
+    is-so (λ e.
+    let t = all-true (blankTests (length f) z) (not-false _ e) in
     h (record { shape = shaped-facts z (t .0); fits = leb-true _ _ (t .1 .0) })))
     (λ e. nothing)
 
@@ -231,7 +229,7 @@ module _ (f scan : List ℕ) (j : Job) (r : Refusal) where
   stand-order =
       open-order f
       (λ S.
-      one (λ t h. true≢false (standing f scan j (sizesOf f) h) (not-true _ t)) (λ h. not-false-is (λ e. h (stood f scan j (sizesOf f) (not-false _ e)))) (λ e. nothing))
+      one (λ t h. true≢false (standing f scan j (sizesOf f) h) (not-true _ t)) (λ h. is-so (λ e. h (stood f scan j (sizesOf f) (not-false _ e)))) (λ e. nothing))
 
   step-refused : (a left : Bool) → agrees f scan j ≡ a → hasLeft (sizesOf f) scan j ≡ left
       → cond a (cond left (step.Wrote (writeAt (sizesOf f) scan j .record-no) (j .written + 1)) (confirmOf f scan j (openOf f))) (step.Refused Disagrees) ≡ step.Refused r

@@ -17,17 +17,17 @@ use Rattle.paper.specs.declared.answer.Opened.the-variants.{Opens}
 use Rattle.paper.specs.declared.job.Job.{Job}
 use Rattle.paper.specs.declared.job.Step.the-variants.{Wrote}
 use Rattle.paper.specs.Sizes.{capacityOf, recordOf, startOf}
-use Rattle.paper.specs.Index.{runOf, empty, shownOf, slotsOf, openOf, Lies, Sound}
+use Rattle.paper.specs.Index.{runOf, empty, Full, shownOf, slotsOf, openOf, Lies, Sound}
 use Rattle.paper.specs.Look.{listOf}
 use Rattle.paper.specs.Store.{Write, countOf, writesOf}
-use Rattle.paper.specs.Step.{noWrite, stepAnswer}
+use Rattle.paper.specs.Step.{isConfirmed, noWrite, stepAnswer}
 use Rattle.paper.proofs.Sizing.{less, times}
 use Rattle.paper.proofs.Opening.{facts-empty, facts-full, inside-all, slots-all, lies-end, sound-open, open-reads}
 use Rattle.paper.proofs.Writes.{writes-row, writes-boot, writes-entry}
 use Rattle.paper.proofs.Ready.{fileAt}
 use Rattle.paper.proofs.Stages.{jobAt, stage-wrote, stage-confirms}
 use Rattle.demands.specs.History.{Op, Whole, begin, scanOf, recordsOf, slotOf, takes, State, answerAfter, reached, heldAt, Holding, Held, holds}
-use Rattle.demands.specs.Survival.{some, PowerCut, isConfirmed, confirmed, Confirmed, Answers, Confirms}
+use Rattle.demands.specs.Survival.{some, PowerCut, confirmed, Confirmed, Answers, Confirms}
 use Rattle.demands.proofs.Start.{Starts, starts, steps-are}
 use Rattle.demands.proofs.Histories.{history}
 
@@ -48,7 +48,7 @@ shown-some {f} {z} S s a b =
     let h : Lies z r = inside-all (S .laid) s a b in
     let len : length (shownOf f z s) ≡ r .last * z .l - startOf z (r .first) = length-part (startOf z (r .first)) (r .last * z .l) f (lies-end (S .booted) h) in
     ⊎-elim
-    (λ (k : 0 < r .first + r .last).
+    (λ (k : Full r).
     ap not (facts-full r k)
     ∙ sym (some-true (shownOf f z s) (omega (arith, len, less (r .first) (z .l) (omega (arith, h .low k)), times (r .first) (r .last) (z .l) (h .order k), S .booted .ranged .shape .l-low))))
     (λ (k : r .first + r .last ≤ 0).

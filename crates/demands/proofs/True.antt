@@ -1,7 +1,7 @@
 -- Demand 2, of what is confirmed: it stands in the file, and is read back.
-use Prim.Native.Nat.{ℕ, _+_, _*_, _<_}
+use Prim.Native.Nat.{ℕ, _+_, _*_}
 use mathlib.Core.Path.{_≡_, refl, sym, _∙_, ap, subst}
-use mathlib.Core.Bool.{true}
+use mathlib.Core.Bool.{true, false}
 use mathlib.Core.List.{List, List·Memᴰ}
 use native.Mathlib.Omega.{arith}
 use lib.ListN.{length}
@@ -13,13 +13,13 @@ use Rattle.paper.specs.declared.answer.Ruled.the-variants.{Keeps}
 use Rattle.paper.specs.declared.job.Job.{Job}
 use Rattle.paper.specs.declared.job.Begun.{Begun}
 use Rattle.paper.specs.declared.job.Step.the-variants.{Saved}
-use Rattle.paper.specs.Index.{runOf, slotsOf, openOf, Sound}
+use Rattle.paper.specs.Index.{runOf, Full, slotsOf, openOf, Sound}
 use Rattle.paper.specs.Scan.{headlen, datalen, ruledOf}
 use Rattle.paper.specs.Look.{listOf}
 use Rattle.paper.specs.Store.{recordsFor, runFrom, saveOf, keepOf}
 use Rattle.paper.proofs.Opening.{open-sound, sound-open, open-reads, full-holds, holds-slots, slots-holds}
 use Rattle.paper.proofs.Encoding.{entry-about}
-use Rattle.paper.proofs.Confirming.{saved-facts, cleared-facts, saved-shown, saved-entry, saved-run, cleared-shown, cleared-entry, cleared-run}
+use Rattle.paper.proofs.Confirming.{ended, saved-shown, saved-entry, saved-run, cleared-shown, cleared-entry, cleared-run}
 use Rattle.paper.proofs.Reading.{read-back}
 use Rattle.paper.proofs.Begins.{InIndex, save-taken, taken-save, keep-taken, taken-keep}
 use Rattle.paper.proofs.Stages.{jobAt}
@@ -41,17 +41,17 @@ at-listed f z o s m = subst (λ (y : Sizes). List·Memᴰ s (slotsOf y (runOf f 
 
 pub saved-shows : SavedShows
 saved-shows f scan j r count e =
-    let x = saved-facts f scan j e in
+    let x = ended f scan j true r count e in
     let z : Sizes = x .z in
     let C = x .facts in
     let A = C .agreeing in
-    let full : 0 < runOf f z (j .slot) .first + runOf f z (j .slot) .last =
-    subst (λ (y : Run). 0 < y .first + y .last) (sym (saved-run C (x .saves))) (omega (arith, A .past (x .saves))) in
+    let full : Full (runOf f z (j .slot)) =
+    subst (λ (y : Run). Full y) (sym (saved-run C (x .is))) (omega (arith, A .past (x .is))) in
     record {
       z = z;
       opens = C .opens;
-      shows = saved-shown C (x .saves);
-      entry = saved-entry C (x .saves);
+      shows = saved-shown C (x .is);
+      entry = saved-entry C (x .is);
       lists =
           listed-at f z (C .opens) (j .slot)
           (holds-slots z (runOf f z) (j .slot) (full-holds (open-sound (C .opens) .laid) (j .slot) (A .low) (A .high) full));
@@ -59,17 +59,17 @@ saved-shows f scan j r count e =
 
 pub cleared-empty : ClearedEmpty
 cleared-empty f scan j r count e =
-    let x = cleared-facts f scan j e in
+    let x = ended f scan j false r count e in
     let z : Sizes = x .z in
     let C = x .facts in
     record {
       z = z;
       opens = C .opens;
-      shows = cleared-shown C (x .clears);
-      entry = cleared-entry C (x .clears);
+      shows = cleared-shown C (x .is);
+      entry = cleared-entry C (x .is);
       unlisted = λ m.
           let h = slots-holds z (runOf f z) (j .slot) (at-listed f z (C .opens) (j .slot) m) in
-          let n : runOf f z (j .slot) .first + runOf f z (j .slot) .last ≡ 0 = ap (λ (y : Run). y .first + y .last) (cleared-run C (x .clears)) in
+          let n : runOf f z (j .slot) .first + runOf f z (j .slot) .last ≡ 0 = ap (λ (y : Run). y .first + y .last) (cleared-run C (x .is)) in
           omega (arith, h .full);
     }
 

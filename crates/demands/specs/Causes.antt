@@ -10,7 +10,7 @@ use Rattle.paper.specs.declared.refusal.Refusal.{Refusal}
 use Rattle.paper.specs.declared.refusal.Refusal.the-variants.{TooShort, OldForm, UnknownForm, OutOfRange, PastEnd, BadEntry, AboveUse, SharedRecord, NoSuchSlot, EmptySlot, BadScan, NoEmptySlot, NoRoom, Disagrees, Differs, BadBlank, TooSmall}
 use Rattle.paper.specs.declared.job.Job.{Job}
 use Rattle.paper.specs.Sizes.{sizesOf, versionOf, capacityOf, roomOf, bytesOf, Ranged}
-use Rattle.paper.specs.Index.{runOf, shownOf, Lies}
+use Rattle.paper.specs.Index.{runOf, Full, shownOf, Lies}
 use Rattle.paper.specs.Look.{listOf}
 use Rattle.paper.specs.Store.{blankSizes, recordsFor, countOf}
 use Rattle.paper.proofs.Agreement.{Agreeing, Standing}
@@ -56,14 +56,10 @@ pub record Shared (run : ℕ → Run) (s : ℕ) : Type 0 where
   pub here : (run s .first ≤ at) × (at ≤ run s .last)
   pub there : (run other .first ≤ at) × (at ≤ run other .last)
 
--- slot s is not empty
-abbrev pub Full : (ℕ → Run) → ℕ → Type 0
-Full run s = 0 < run s .first + run s .last
-
 abbrev pub IndexOrder : Sizes → (ℕ → Run) → (Refusal → Type 0) → Refusal → Type 0
 IndexOrder z run rest =
     Least (λ s. Lies z (run s) → ⊥) (z .u) BadEntry
-    (Least (λ s. (z .u < s) × Full run s) (capacityOf z) AboveUse
+    (Least (λ s. (z .u < s) × Full (run s)) (capacityOf z) AboveUse
     (Least (Shared run) (z .u) SharedRecord rest))
 
 abbrev pub OpenOrder : List ℕ → (Refusal → Type 0) → Refusal → Type 0
@@ -79,7 +75,7 @@ OpenOrder f rest =
 
 abbrev pub SlotOrder : List ℕ → ℕ → (Refusal → Type 0) → Refusal → Type 0
 SlotOrder f s rest =
-    OpenOrder f (One (InIndex (sizesOf f) s → ⊥) NoSuchSlot (One (Full (runOf f (sizesOf f)) s → ⊥) EmptySlot rest))
+    OpenOrder f (One (InIndex (sizesOf f) s → ⊥) NoSuchSlot (One (Full (runOf f (sizesOf f) s) → ⊥) EmptySlot rest))
 
 abbrev pub ReadOrder : List ℕ → ℕ → Refusal → Type 0
 ReadOrder f s = SlotOrder f s (Rules (shownOf f (sizesOf f) s) false Nothing)
@@ -106,7 +102,7 @@ SaveOrder f slot scan = OpenOrder f (One (InIndex (sizesOf f) slot → ⊥) NoSu
 -- 12: "no empty slot"
 abbrev pub KeepOrder : List ℕ → List ℕ → Refusal → Type 0
 KeepOrder f scan =
-    OpenOrder f (One ((s : ℕ) → 1 ≤ s → s ≤ capacityOf (sizesOf f) → Full (runOf f (sizesOf f)) s) NoEmptySlot (ScanOrder f scan))
+    OpenOrder f (One ((s : ℕ) → 1 ≤ s → s ≤ capacityOf (sizesOf f) → Full (runOf f (sizesOf f) s)) NoEmptySlot (ScanOrder f scan))
 
 abbrev pub ClearOrder : List ℕ → ℕ → Refusal → Type 0
 ClearOrder f slot = SlotOrder f slot Nothing

@@ -11,16 +11,15 @@ use Rattle.paper.specs.declared.answer.Listed.the-variants.{Scans}
 use Rattle.paper.specs.declared.job.Job.{Job}
 use Rattle.paper.specs.declared.job.Step.the-variants.{Wrote}
 use Rattle.paper.specs.Sizes.{sizesOf, capacityOf}
-use Rattle.paper.specs.Index.{runOf, openOf}
+use Rattle.paper.specs.Index.{runOf, Full, openOf}
 use Rattle.paper.specs.Look.{linesOf, listOf, listedOf, listedOut}
 use Rattle.paper.specs.Store.{perform}
 use Rattle.paper.specs.Step.{writeAt, stepFile, stepJob, stepAnswer}
-use Rattle.demands.specs.Causes.{Full}
 
 -- the list: exactly the slots that are not empty, rising, so each once
 pub record Exactly (f : List ℕ) (z : Sizes) : Type 0 where
-  pub only : (s : ℕ) → List·Memᴰ s (listOf f) → (1 ≤ s) × (s ≤ capacityOf z) × Full (runOf f z) s
-  pub each : (s : ℕ) → 1 ≤ s → s ≤ capacityOf z → Full (runOf f z) s → List·Memᴰ s (listOf f)
+  pub only : (s : ℕ) → List·Memᴰ s (listOf f) → (1 ≤ s) × (s ≤ capacityOf z) × Full (runOf f z s)
+  pub each : (s : ℕ) → 1 ≤ s → s ≤ capacityOf z → Full (runOf f z s) → List·Memᴰ s (listOf f)
   pub rising : Rising (listOf f)
 
 abbrev pub ListExactly : Type 0

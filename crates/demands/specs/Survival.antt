@@ -7,10 +7,11 @@ use Rattle.lent.specs.Lists.{those}
 use Rattle.paper.specs.declared.sizes.Sizes.{Sizes}
 use Rattle.paper.specs.declared.answer.Opened.the-variants.{Opens}
 use Rattle.paper.specs.declared.job.Step.{Step}
-use Rattle.paper.specs.declared.job.Step.the-variants.{Wrote, Saved, Cleared, Refused}
+use Rattle.paper.specs.declared.job.Step.the-variants.{Wrote, Saved, Cleared}
 use Rattle.paper.specs.Sizes.{renewed, capacityOf, recordOf}
 use Rattle.paper.specs.Index.{openOf}
 use Rattle.paper.specs.Look.{listOf}
+use Rattle.paper.specs.Step.{isConfirmed}
 use Rattle.demands.specs.History.{Op, save, keep, clear, Whole, begin, recordsOf, slotOf, takes, answerAfter, stepped, reached, heldAt, Holding, Done, Wholes, after, holds}
 
 -- some bytes
@@ -39,12 +40,6 @@ abbrev pub confirmed : Op → ℕ → Step
 confirmed (save slot scan about) count = Saved 0 count
 confirmed (keep scan about) count = Saved 0 count
 confirmed (clear slot) count = Cleared 0 count
-
-abbrev pub isConfirmed : Step → Bool
-isConfirmed (Wrote r count) = false
-isConfirmed (Saved r count) = true
-isConfirmed (Cleared r count) = true
-isConfirmed (Refused r) = false
 
 -- Every confirmed change has reached the index.
 abbrev pub Confirmed : Type 0

@@ -37,9 +37,6 @@ module _ {R : Type 0} where
   pub fires-here : (t : Bool) (r : R) (cs : List (Check R)) → t ≡ true → fired (check t r ∷ cs) ≡ fires r
   fires-here t r cs p = rw p
 
-  pub fires-later : (t : Bool) (r : R) (cs : List (Check R)) → t ≡ false → fired (check t r ∷ cs) ≡ fired cs
-  fires-later t r cs p = rw p
-
   -- one list after another: where the first is clear the second decides, and where it fires it decides
   pub clear-append : (cs ds : List (Check R)) → fired cs ≡ clear → fired (cs ++ ds) ≡ fired ds
   clear-append [] ds e = refl

@@ -95,6 +95,14 @@ pub least-here : {p : ℕ → Bool} {n i : ℕ} → None p i → p (i + 1) ≡ t
 least-here {p} {n} {i} h t lt =
     least-lowest (record { low = omega arith; high = omega arith; takes = t; below = λ s a b. h .none s a (omega arith) })
 
+-- what is found lies among the n
+pub least-le : (p : ℕ → Bool) (n : ℕ) → least p n ≤ n
+least-le p n = go (least p n) (view p n)
+  where
+    go : (k : ℕ) → View p n k → k ≤ n
+    go k (nothing v) = omega arith
+    go k (lowest v) = v .high
+
 -- tests that agree on 1 to n
 pub least-same : (p q : ℕ → Bool) (n : ℕ) → ((s : ℕ) → 0 < s → s ≤ n → p s ≡ q s) → least p n ≡ least q n
 unfolding least

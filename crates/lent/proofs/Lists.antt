@@ -3,8 +3,8 @@ use Prim.Native.Nat.{ℕ, zero, suc, _+_, _≤_, _<_}
 use mathlib.Core.Path.{_≡_, refl, sym, _∙_, ap}
 use mathlib.Core.Bool.{Bool, true, false, cond}
 use mathlib.Core.List.{List, [], _∷_, _++_, append-nil, List·Memᴰ, List·Memᴰ·head, List·Memᴰ·not-nil, List·Memᴰ·append-cases, List·Memᴰ·eq-of-singleton, Memᴰ·cast, Memᴰ·append-left, Memᴰ·append-right}
-use mathlib.Core.Logic.{_⊎_, inl, inr, ⊎-elim}
-use native.Mathlib.Decide.{decLe}
+use mathlib.Core.Logic.{_≢_, _⊎_, inl, inr, ⊎-elim}
+use native.Mathlib.Decide.{decLe, ℕ-discrete}
 use native.Mathlib.Numerals.{add-one}
 use native.Mathlib.Omega.{arith}
 use lib.ListN.{length, take, getD, set, length-append, List·getD-append}
@@ -24,13 +24,32 @@ not-so {t} h = go t h
     go true h = absurd (h refl)
     go false h = refl
 
+-- and one that cannot be false is true
+pub is-so : {t : Bool} → (t ≡ false → ⊥) → t ≡ true
+is-so {t} h = go t h
+  where
+    go : (b : Bool) → (b ≡ false → ⊥) → b ≡ true
+    go true h = refl
+    go false h = absurd (h refl)
+
 pub either : (t : Bool) → (t ≡ true) ⊎ (t ≡ false)
 either true = inl refl
 either false = inr refl
 
--- which of two numbers is less, as a choice that a proof can take apart
+-- which of two numbers is less, and whether they are the same, as a choice that a proof can take apart
 pub lt-or-ge : (m n : ℕ) → (m < n) ⊎ (n ≤ m)
 lt-or-ge m n = elim (decLe n m) [ yes h ↦ inr h | no h ↦ inl (omega arith) ]
+
+pub same-or : (a b : ℕ) → (a ≡ b) ⊎ (a ≢ b)
+same-or a b = elim (ℕ-discrete a b) [ yes h ↦ inl h | no h ↦ inr h ]
+
+-- a test that is asked only where b holds
+pub asked : (b t : Bool) → cond b t true ≡ true → b ≡ true → t ≡ true
+asked b t e q = rw q at e
+
+pub answered : (b t : Bool) → (b ≡ true → t ≡ true) → cond b t true ≡ true
+answered true t h = h refl
+answered false t h = refl
 
 -- ---- tests in a row
 
@@ -123,11 +142,6 @@ every-all (suc n) p e i h =
     let b = also-true (every n p) (p n) e in
     ⊎-elim (λ (l : i < n). every-all n p (b .0) i l) (λ (l : n ≤ i). let q : n ≡ i = omega arith in rw (← q) (b .1)) (lt-or-ge i n)
 
-pub all-every : (n : ℕ) (p : ℕ → Bool) → ((i : ℕ) → i < n → p i ≡ true) → every n p ≡ true
-unfolding every
-all-every zero p h = refl
-all-every (suc n) p h = true-also (every n p) (p n) (all-every n p (λ i l. h i (omega arith))) (h n (omega arith))
-
 -- a turn of a loop that has passed i numbers, and the turn that stops it
 pub every-more : (i : ℕ) (p : ℕ → Bool) → every i p ≡ true → p i ≡ true → every (i + 1) p ≡ true
 unfolding every
@@ -136,11 +150,6 @@ every-more i p e t = rw add-one (true-also (every i p) (p i) e t)
 pub every-not : (n : ℕ) (p : ℕ → Bool) (i : ℕ) → i < n → p i ≡ false → every n p ≡ false
 every-not n p i h t = not-so (λ e. true≢false (every-all n p e i h) t)
 
-pub every-same : (n : ℕ) (p q : ℕ → Bool) → ((i : ℕ) → i < n → p i ≡ q i) → every n p ≡ every n q
-unfolding every
-every-same zero p q h = refl
-every-same (suc n) p q h = rw (every-same n p q (λ i l. h i (omega arith)), h n (omega arith))
-
 -- ---- the numbers of 1 to n that a test takes
 
 pub those-same : (p q : ℕ → Bool) (n : ℕ) → ((s : ℕ) → 1 ≤ s → s ≤ n → p s ≡ q s) → those p n ≡ those q n
@@ -148,11 +157,7 @@ unfolding those
 those-same p q zero h = refl
 those-same p q (suc n) h = rw (those-same p q n (λ s a b. h s a (omega arith)), h (suc n) (omega arith) (omega arith))
 
--- a turn of a loop that has passed n numbers: the next is taken, or is not
-pub those-taken : (p : ℕ → Bool) (n : ℕ) → p (n + 1) ≡ true → those p (n + 1) ≡ those p n ++ ((n + 1) ∷ [])
-unfolding those
-those-taken p n t = let e : p (suc n) ≡ true = rw add-one at t in rw (add-one, e)
-
+-- a number that is not taken adds nothing
 pub those-not : (p : ℕ → Bool) (n : ℕ) → p (n + 1) ≡ false → those p (n + 1) ≡ those p n
 unfolding those
 those-not p n t = let e : p (suc n) ≡ false = rw add-one at t in rw (add-one, e) (append-nil (those p n))

@@ -3,12 +3,12 @@ use Prim.Native.Nat.{ℕ, zero, suc, _+_, _-_, _*_, _/_, _%_, _^_, _≤_, _<_}
 use mathlib.Core.Path.{_≡_, refl, sym, _∙_, ap}
 use mathlib.Core.List.{List, [], _∷_, _++_, append-assoc}
 use native.Mathlib.Omega.{arith}
-use native.Mathlib.Nat.{add-assoc, add-zero, add-suc, zero-add, add-mul, sub-self, mul-one, mul-assoc, pow-suc, pow-zero, div-one, div-eq-of-lt, div-add-mod', div-div-eq-div-mul, mod-lt}
-use lib.ListN.{length, take, drop, getD, length-append, List·getD-append, List·getD-eq-default}
-use lib.Seq.{getD-take, getD-drop, getD-append-add}
+use native.Mathlib.Nat.{add-assoc, add-zero, add-suc, zero-add, add-mul, sub-self, mul-one, mul-assoc, pow-suc, pow-zero, div-one, div-eq-of-lt, div-add-mod', div-div-eq-div-mul}
+use lib.ListN.{length, getD, length-append, List·getD-append, List·getD-eq-default}
+use lib.Seq.{getD-append-add}
 use Rattle.lent.specs.Lists.{table}
-use Rattle.lent.specs.Number.{Order, big, little, placeOf, value, digit, number, bytes, words}
-use Rattle.lent.specs.Part.{part, Same}
+use Rattle.lent.specs.Number.{Order, big, little, byteOf, value, digit, number, bytes, words}
+use Rattle.lent.specs.Part.{part, Alike}
 use Rattle.lent.specs.Write.{write, zeros, pad}
 use Rattle.lent.proofs.Lists.{length-table, table-at}
 use Rattle.lent.proofs.Writes.{write-in, getD-zeros, pad-at}
@@ -16,23 +16,18 @@ use Rattle.lent.proofs.Parts.{part-at}
 
 -- ---- digits
 
-pub place-lt : (o : Order) (n i : ℕ) → i < n → placeOf o n i < n
-place-lt big n i h = h
-place-lt little n i h = omega arith
+pub byte-lt : (o : Order) (n i : ℕ) → i < n → byteOf o n i < n
+byte-lt big n i h = h
+byte-lt little n i h = omega arith
 
-pub place-back : (o : Order) (n i : ℕ) → i < n → placeOf o n (placeOf o n i) ≡ i
-place-back big n i h = refl
-place-back little n i h = omega arith
+pub byte-back : (o : Order) (n i : ℕ) → i < n → byteOf o n (byteOf o n i) ≡ i
+byte-back big n i h = refl
+byte-back little n i h = omega arith
 
 pub value-same : (n : ℕ) (d e : ℕ → ℕ) → ((i : ℕ) → i < n → d i ≡ e i) → value n d ≡ value n e
 unfolding value
 value-same zero d e h = refl
 value-same (suc n) d e h = rw (value-same n d e (λ i l. h i (omega arith)), h n (omega arith))
-
-pub value-small : (n : ℕ) (d : ℕ → ℕ) → ((i : ℕ) → i < n → d i < 256) → value n d < 256 ^ n
-unfolding value
-value-small zero d h = omega arith
-value-small (suc n) d h = rw pow-suc (omega (arith, value-small n d (λ i l. h i (omega arith)), h n (omega arith)))
 
 pub value-zero : (n : ℕ) (d : ℕ → ℕ) → ((i : ℕ) → i < n → d i ≡ 0) → value n d ≡ 0
 unfolding value
@@ -63,21 +58,15 @@ value-digit n v (suc k) h l =
 pub number-cong : (o : Order) (n : ℕ) (s : List ℕ) (a : ℕ) (t : List ℕ) (b : ℕ) → ((i : ℕ) → i < n → getD s (a + i) 0 ≡ getD t (b + i) 0)
     → number o n s a ≡ number o n t b
 unfolding number
-number-cong o n s a t b h = value-same n _ _ (λ i l. h (placeOf o n i) (place-lt o n i l))
+number-cong o n s a t b h = value-same n _ _ (λ i l. h (byteOf o n i) (byte-lt o n i l))
 
 module _ (o : Order) (n : ℕ) where
-  pub number-same : (f g : List ℕ) (a b at : ℕ) → Same f g a b → a ≤ at → at + n ≤ b → number o n g at ≡ number o n f at
+  pub number-same : (f g : List ℕ) (a b at : ℕ) → Alike f g a b → a ≤ at → at + n ≤ b → number o n g at ≡ number o n f at
   number-same f g a b at h lo hi = number-cong o n g at f at (λ i l. h (at + i) (omega arith) (omega arith))
 
   pub number-in : (f : List ℕ) (at : ℕ) (bs : List ℕ) (k : ℕ) → at ≤ length f → k + n ≤ length bs → number o n (write f at bs) (at + k) ≡ number o n bs k
   number-in f at bs k fits h =
       number-cong o n (write f at bs) (at + k) bs k (λ i l. rw add-assoc (write-in f at bs fits (k + i) (omega arith)))
-
-  pub number-shift : (k : ℕ) (s : List ℕ) (at : ℕ) → number o n (drop k s) at ≡ number o n s (k + at)
-  number-shift k s at = number-cong o n (drop k s) at s (k + at) (λ i l. rw add-assoc (getD-drop k s (at + i) 0))
-
-  pub number-take : (k : ℕ) (s : List ℕ) (at : ℕ) → at + n ≤ k → number o n (take k s) at ≡ number o n s at
-  number-take k s at h = number-cong o n (take k s) at s at (λ i l. getD-take k s (at + i) 0 (omega arith))
 
   pub number-part : (from to : ℕ) (s : List ℕ) (at : ℕ) → at + n ≤ to - from → number o n (part from to s) at ≡ number o n s (from + at)
   number-part from to s at h =
@@ -86,51 +75,39 @@ module _ (o : Order) (n : ℕ) where
   pub number-pad : (m : ℕ) (xs : List ℕ) (at : ℕ) → number o n (pad m xs) at ≡ number o n xs at
   number-pad m xs at = number-cong o n (pad m xs) at xs at (λ i l. pad-at m xs (at + i))
 
-  -- in the first of two runs, and in the second
-  pub number-append : (s t : List ℕ) (at : ℕ) → at + n ≤ length s → number o n (s ++ t) at ≡ number o n s at
-  number-append s t at h = number-cong o n (s ++ t) at s at (λ i l. List·getD-append s t 0 (at + i) (omega arith))
-
   pub number-after : (s t : List ℕ) (at : ℕ) → number o n (s ++ t) (length s + at) ≡ number o n t at
   number-after s t at = number-cong o n (s ++ t) (length s + at) t at (λ i l. rw add-assoc (getD-append-add s t (at + i) 0))
 
   -- zeros, and what lies past the end
   pub number-zeros : (m at : ℕ) → number o n (zeros m) at ≡ 0
   unfolding number
-  number-zeros m at = value-zero n _ (λ i l. getD-zeros m (at + placeOf o n i))
+  number-zeros m at = value-zero n _ (λ i l. getD-zeros m (at + byteOf o n i))
 
   pub number-past : (s : List ℕ) (at : ℕ) → length s ≤ at → number o n s at ≡ 0
   unfolding number
   number-past s at h = value-zero n _ (λ i l. List·getD-eq-default s 0 (omega arith))
 
-  pub number-small : (s : List ℕ) (at : ℕ) → ((i : ℕ) → getD s i 0 < 256) → number o n s at < 256 ^ n
-  unfolding number
-  number-small s at h = value-small n _ (λ i l. h (at + placeOf o n i))
-
   -- ---- a number as its bytes
 
   pub length-bytes : (v : ℕ) → length (bytes o n v) ≡ n
   unfolding bytes
-  length-bytes v = length-table n (λ i. digit n v (placeOf o n i))
+  length-bytes v = length-table n (λ i. digit n v (byteOf o n i))
 
-  pub bytes-at : (v i : ℕ) → i < n → getD (bytes o n v) i 0 ≡ digit n v (placeOf o n i)
+  pub bytes-at : (v i : ℕ) → i < n → getD (bytes o n v) i 0 ≡ digit n v (byteOf o n i)
   unfolding bytes
-  bytes-at v i h = table-at n (λ i. digit n v (placeOf o n i)) i 0 h
+  bytes-at v i h = table-at n (λ i. digit n v (byteOf o n i)) i 0 h
 
   pub number-bytes : (v : ℕ) (rest : List ℕ) → v < 256 ^ n → number o n (bytes o n v ++ rest) 0 ≡ v
   unfolding number
   number-bytes v rest h =
       value-same n _ (digit n v)
       (λ i l.
-      let k = place-lt o n i l in
-      List·getD-append (bytes o n v) rest 0 (0 + placeOf o n i) (omega (arith, length-bytes v))
-      ∙ ap (λ (x : ℕ). getD (bytes o n v) x 0) (zero-add (placeOf o n i))
-      ∙ bytes-at v (placeOf o n i) k ∙ ap (digit n v) (place-back o n i l))
+      let k = byte-lt o n i l in
+      List·getD-append (bytes o n v) rest 0 (0 + byteOf o n i) (omega (arith, length-bytes v))
+      ∙ ap (λ (x : ℕ). getD (bytes o n v) x 0) (zero-add (byteOf o n i))
+      ∙ bytes-at v (byteOf o n i) k ∙ ap (digit n v) (byte-back o n i l))
       ∙ value-digit n v n h (omega arith)
       ∙ ap (λ (x : ℕ). v / 256 ^ x) (sub-self n) ∙ div-one v
-
-pub digit-small : (n v i : ℕ) → digit n v i < 256
-unfolding digit
-digit-small n v i = mod-lt (v / 256 ^ (n - 1 - i)) (omega arith)
 
 -- a wide number from two narrower ones
 pub number-join : (m n : ℕ) (s : List ℕ) (at : ℕ) → number big (m + n) s at ≡ number big m s at * 256 ^ n + number big n s (at + m)

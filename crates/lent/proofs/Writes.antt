@@ -4,7 +4,7 @@ use mathlib.Core.Path.{_≡_, refl, sym, _∙_, ap}
 use mathlib.Core.Logic.{⊎-elim}
 use mathlib.Core.List.{List, [], _++_, append-assoc, append-nil}
 use native.Mathlib.Omega.{arith}
-use native.Mathlib.Nat.{add-zero, sub-zero}
+use native.Mathlib.Nat.{add-zero}
 use lib.ListN.{length, take, drop, getD, length-append, length-drop, take-append-drop, length-replicate, drop-of-length-le, replicate-append-replicate, List·getD-append, List·getD-eq-default}
 use lib.Seq.{length-take-le, getD-take, getD-drop, getD-append-add, take-at, drop-at, drop-drop, ext-getD}
 use Rattle.lent.specs.Write.{write, zeros, pad}
@@ -71,7 +71,7 @@ module _ (f : List ℕ) (at : ℕ) (a : List ℕ) where
       ap (λ (m : ℕ). getD (write f at a) m 0) (sym e) ∙ sym (getD-drop n (write f at a) j 0) ∙ ap (λ (l : List ℕ). getD l j 0) (drop-write k)
       ∙ getD-drop n f j 0 ∙ ap (λ (m : ℕ). getD f m 0) e
 
-  -- and one inside holds what was written, by its number there and by its place
+  -- and one inside holds what was written
   pub write-in : at ≤ length f → (i : ℕ) → i < length a → getD (write f at a) (at + i) 0 ≡ getD a i 0
   unfolding write
   write-in k i h =
@@ -79,31 +79,11 @@ module _ (f : List ℕ) (at : ℕ) (a : List ℕ) where
       ∙ getD-append-add (take at f) (a ++ drop (at + length a) f) i 0
       ∙ List·getD-append a (drop (at + length a) f) 0 i h
 
-  pub write-at : at ≤ length f → (i : ℕ) → at ≤ i → i < at + length a → getD (write f at a) i 0 ≡ getD a (i - at) 0
-  write-at k i h l =
-      let e : at + (i - at) ≡ i = omega arith in
-      ap (λ (m : ℕ). getD (write f at a) m 0) (sym e) ∙ write-in k (i - at) (omega arith)
-
--- ---- no bytes, the bytes that stand there, all bytes
+-- ---- no bytes, and all bytes
 
 pub write-nothing : (f : List ℕ) (at : ℕ) → write f at [] ≡ f
 unfolding write
 write-nothing f at = simp add-zero (take-append-drop at f)
-
-pub write-same : (f : List ℕ) (at : ℕ) (a : List ℕ) → take (length a) (drop at f) ≡ a → write f at a ≡ f
-unfolding write
-write-same f at a e =
-    ap (λ (r : List ℕ). take at f ++ (r ++ drop (at + length a) f)) (sym e)
-    ∙ ap (λ (r : List ℕ). take at f ++ (take (length a) (drop at f) ++ r)) (sym (drop-drop (length a) at f))
-    ∙ ap (λ (r : List ℕ). take at f ++ r) (take-append-drop (length a) (drop at f)) ∙ take-append-drop at f
-
--- the same, from the bytes one by one
-pub write-equal : (f : List ℕ) (at : ℕ) (a : List ℕ) → at + length a ≤ length f → ((i : ℕ) → i < length a → getD f (at + i) 0 ≡ getD a i 0) → write f at a ≡ f
-write-equal f at a h e =
-    let l : length (take (length a) (drop at f)) ≡ length a = length-take-le (length a) (drop at f) (simp length-drop (omega arith)) in
-    write-same f at a
-    (ext-getD 0 (take (length a) (drop at f)) a l
-    (λ i k. let m : i < length a = omega (arith, l, k) in getD-take (length a) (drop at f) i 0 m ∙ getD-drop at f i 0 ∙ e i m))
 
 pub write-all : (f a : List ℕ) → length f ≤ length a → write f 0 a ≡ a
 unfolding write
@@ -133,45 +113,6 @@ write-next f at a b h =
 pub write-then : (f g h : List ℕ) (at n : ℕ) (a b : List ℕ) → g ≡ write f at a → h ≡ write g n b → at + length a ≡ n → at ≤ length f → h ≡ write f at (a ++ b)
 write-then f g h at n a b p q e l =
     q ∙ ap (λ (x : List ℕ). write x n b) p ∙ ap (λ (k : ℕ). write (write f at a) k b) (sym e) ∙ write-next f at a b l
-
--- the second over the first: the first is gone
-pub write-over : (f : List ℕ) (at : ℕ) (a b : List ℕ) → at ≤ length f → length a ≤ length b → write (write f at a) at b ≡ write f at b
-write-over f at a b h k =
-    let j = length b - length a in
-    let e : at + length a + j ≡ at + length b = omega arith in
-    let d : (l : List ℕ) → drop (at + length b) l ≡ drop j (drop (at + length a) l) =
-    λ l. ap (λ (n : ℕ). drop n l) (sym e) ∙ sym (drop-drop j (at + length a) l) in
-    write-of (write f at a) at (take at f) (drop (at + length b) f) b (take-write f at a h) (d (write f at a) ∙ ap (drop j) (drop-write f at a h) ∙ sym (d f))
-    ∙ sym (write-of f at (take at f) (drop (at + length b) f) b refl refl)
-
--- at places that do not meet: in either order
-pub write-comm : (f : List ℕ) (p q : ℕ) (a b : List ℕ) → p + length a ≤ q → q ≤ length f → write (write f p a) q b ≡ write (write f q b) p a
-write-comm f p q a b h k =
-    let g : List ℕ = write f p a in
-    let x : List ℕ = write f q b in
-    let lg : length g ≡ max (length f) (p + length a) = length-write-max f p a (omega arith) in
-    let lx : length x ≡ max (length f) (q + length b) = length-write-max f q b k in
-    let fg : q ≤ length g = omega arith in
-    let fx : p ≤ length x = omega arith in
-    let l₁ : length (write g q b) ≡ max (length g) (q + length b) = length-write-max g q b fg in
-    let l₂ : length (write x p a) ≡ max (length x) (p + length a) = length-write-max x p a fx in
-    ext-getD 0 (write g q b) (write x p a) (omega arith)
-    (λ i hi.
-    ⊎-elim
-    (λ (u : i < q).
-    write-before g q b fg i u
-    ∙ ⊎-elim (λ (v : i < p). write-before f p a (omega arith) i v ∙ sym (write-before f q b k i u) ∙ sym (write-before x p a fx i v))
-    (λ (v : p ≤ i).
-    ⊎-elim (λ (w : i < p + length a). write-at f p a (omega arith) i v w ∙ sym (write-at x p a fx i v w))
-    (λ (w : p + length a ≤ i). write-after f p a (omega arith) i w ∙ sym (write-before f q b k i u) ∙ sym (write-after x p a fx i w))
-    (lt-or-ge i (p + length a)))
-    (lt-or-ge i p))
-    (λ (u : q ≤ i).
-    ⊎-elim (λ (v : i < q + length b). write-at g q b fg i u v ∙ sym (write-at f q b k i u v))
-    (λ (v : q + length b ≤ i). write-after g q b fg i v ∙ write-after f p a (omega arith) i (omega arith) ∙ sym (write-after f q b k i v))
-    (lt-or-ge i (q + length b))
-    ∙ sym (write-after x p a fx i (omega arith)))
-    (lt-or-ge i q))
 
 -- ---- what a `&mut` slice holds after its part from `at` up to e was lent to a call
 
@@ -210,7 +151,3 @@ pad-at n xs i =
 pub pad-none : (n : ℕ) (xs : List ℕ) → n ≤ length xs → pad n xs ≡ xs
 unfolding pad zeros
 pad-none n xs h = let e : n - length xs ≡ 0 = omega arith in rw e (append-nil xs)
-
-pub pad-zeros : (n : ℕ) → pad n [] ≡ zeros n
-unfolding pad
-pad-zeros n = rw sub-zero

@@ -1,7 +1,7 @@
 -- Numbers in a run of bytes, of any width and in either byte order. Past the end of the run a byte counts as 0.
 use Prim.Native.Nat.{ℕ, zero, suc, _+_, _-_, _*_, _/_, _%_, _^_, _<_}
 use mathlib.Core.Path.{_≡_}
-use mathlib.Core.Bool.{Bool, cond}
+use mathlib.Core.Bool.{cond}
 use mathlib.Core.List.{List, [], _∷_, _++_}
 use lib.Dec.{ltb}
 use lib.IntN.{ℤ, pos, negsuc}
@@ -12,10 +12,10 @@ pub data Order : Type 0 where
   big : Order
   little : Order
 
--- the place among n bytes of digit i, the highest digit being digit 0
-abbrev pub placeOf : Order → ℕ → ℕ → ℕ
-placeOf big n i = i
-placeOf little n i = n - 1 - i
+-- which of n bytes holds digit i, the highest digit being digit 0
+abbrev pub byteOf : Order → ℕ → ℕ → ℕ
+byteOf big n i = i
+byteOf little n i = n - 1 - i
 
 -- the number whose n digits in base 256, the highest first, are d 0 to d (n - 1)
 unfoldable pub value : ℕ → (ℕ → ℕ) → ℕ
@@ -28,11 +28,11 @@ digit n v i = v / 256 ^ (n - 1 - i) % 256
 
 -- the number of n bytes at place `at` of a run
 unfoldable pub number : Order → ℕ → List ℕ → ℕ → ℕ
-number o n s at = value n (λ i. getD s (at + placeOf o n i) 0)
+number o n s at = value n (λ i. getD s (at + byteOf o n i) 0)
 
 -- a number as its n bytes
 unfoldable pub bytes : Order → ℕ → ℕ → List ℕ
-bytes o n v = table n (λ i. digit n v (placeOf o n i))
+bytes o n v = table n (λ i. digit n v (byteOf o n i))
 
 -- "Numbers are big-endian"
 abbrev pub be16 : List ℕ → ℕ → ℕ

@@ -8,5 +8,5 @@ abbrev pub part : ℕ → ℕ → List ℕ → List ℕ
 part from to s = take (to - from) (drop from s)
 
 -- f and g have the same bytes from a up to b
-abbrev pub Same : List ℕ → List ℕ → ℕ → ℕ → Type 0
-Same f g a b = (i : ℕ) → a ≤ i → i < b → getD g i 0 ≡ getD f i 0
+abbrev pub Alike : List ℕ → List ℕ → ℕ → ℕ → Type 0
+Alike f g a b = (i : ℕ) → a ≤ i → i < b → getD g i 0 ≡ getD f i 0

@@ -38,28 +38,18 @@ pub fn load32(s: &[u8], at: usize) -> u32
     wide(s[at]) * 16777216 + wide(s[at + 1]) * 65536 + wide(s[at + 2]) * 256 + wide(s[at + 3])
 }
 
-// Four bytes that may end the run.
-fn tail32(s: &[u8], at: usize) -> u32
+pub fn word32(s: &[u8], at: usize) -> u32
     ensures { λ r. ⌜ r ≡ be32 (now (s .entry)) at ⌝ }
 {
     if s.len() <= at {
         return 0;
     }
+    if at + 4 <= s.len() {
+        return load32(s, at);
+    }
     let hi = word16(s, at);
     let lo = word16(s, at + 2);
     (hi as u32) * 65536 + (lo as u32)
-}
-
-pub fn word32(s: &[u8], at: usize) -> u32
-    ensures { λ r. ⌜ r ≡ be32 (now (s .entry)) at ⌝ }
-{
-    if s.len() < 4 {
-        return tail32(s, at);
-    }
-    if s.len() - 4 < at {
-        return tail32(s, at);
-    }
-    load32(s, at)
 }
 
 pub fn word64(s: &[u8], at: usize) -> u64

@@ -1,5 +1,5 @@
 -- The text from its lines, and how long it can be.
-use Prim.Native.Nat.{ℕ, _+_, _≤_, _<_}
+use Prim.Native.Nat.{ℕ, _+_, _≤_}
 use mathlib.Core.Path.{_≡_, refl, _∙_, ap}
 use mathlib.Core.List.{List, [], _∷_, _++_, append-assoc}
 use mathlib.Core.Logic.{⊎-elim}
@@ -15,7 +15,7 @@ use Rattle.paper.specs.declared.refusal.Refusal.{Refusal}
 use Rattle.paper.specs.declared.answer.Opened.the-variants.{Opens, Refused}
 use Rattle.paper.specs.Refusals.{numberOf, valueOf}
 use Rattle.paper.specs.Sizes.{capacityOf, Ranged}
-use Rattle.paper.specs.Index.{runOf, slotsOf, openOf, Lies, Sound}
+use Rattle.paper.specs.Index.{runOf, Full, slotsOf, openOf, Lies, Sound}
 use Rattle.paper.specs.Lister.{decimal, linesText, textOf, listText, slotsWord, usedWord, scansWord, refusedWord, slotWord}
 use Rattle.paper.proofs.Opening.{open-sound, inside-all}
 use Rattle.index.specs.Row.{rowRun, Runs}
@@ -88,7 +88,7 @@ line-short s r h k l =
 
 lies-first : (z : Sizes) (r : Run) → Lies z r → r .first ≤ z .n + z .d
 lies-first z r h =
-    ⊎-elim (λ (k : 0 < r .first + r .last). omega (arith, h .order k, h .high)) (λ (k : r .first + r .last ≤ 0). omega arith) (lt-or-ge 0 (r .first + r .last))
+    ⊎-elim (λ (k : Full r). omega (arith, h .order k, h .high)) (λ (k : r .first + r .last ≤ 0). omega arith) (lt-or-ge 0 (r .first + r .last))
 
 lines-short : (f : List ℕ) {z : Sizes} → openOf f ≡ Opens z → length (piecesIn lineFor (runOf f z) (z .u)) ≤ 86016
 lines-short f {z} o =

@@ -2,16 +2,15 @@
 use Prim.Native.Nat.{ℕ, _+_, _*_, _≤_, _<_}
 use mathlib.Core.Path.{_≡_, refl, sym, _∙_, ap, subst}
 use mathlib.Core.Bool.{Bool, true, false, cond}
-use mathlib.Core.List.{List, [], _∷_}
+use mathlib.Core.List.{List, []}
 use native.Mathlib.Omega.{arith}
 use borrow.Author.Tests.{lt-ltb, le-ltb, le-leb, eq-eqb, ne-eqb, ltb-true, leb-true, eqb-true}
 use lib.ListN.{length, take, drop}
 use Rattle.lent.specs.Checks.{Fired, clear, fires, fired}
 use Rattle.lent.specs.Lists.{all}
 use Rattle.lent.specs.Part.{part}
-use Rattle.lent.specs.Same.{same}
 use Rattle.lent.specs.Write.{write, pad}
-use Rattle.lent.proofs.Lists.{all-true, true-all, true≢false, not-so}
+use Rattle.lent.proofs.Lists.{all-true, true-all, true≢false, not-so, asked, answered}
 use Rattle.lent.proofs.Checks.{judge-clear}
 use Rattle.lent.proofs.Sames.{same-true, true-same}
 use Rattle.lent.proofs.Writes.{write-nothing}
@@ -26,7 +25,7 @@ use Rattle.paper.specs.declared.job.Step.the-variants.{Wrote, Refused}
 use Rattle.paper.specs.Sizes.{sizesOf, bootBytes, capacityOf, recordOf, startOf, homeOf, roomOf, bootChecks}
 use Rattle.paper.specs.Index.{bootOf, openOf, entryAt, Booted}
 use Rattle.paper.specs.Store.{Write, perform, countOf, paddedOf, sizesAfter, entryAfter, writesOf}
-use Rattle.paper.specs.Step.{isClear, agreeTests, agrees, writeAt, hasLeft, stepFile, moved, stepJob, stands, confirmOf, stepAnswer, steppedOf}
+use Rattle.paper.specs.Step.{isClear, agreeTests, agrees, writeAt, hasLeft, stepFile, placed, moved, stepJob, standTests, stands, confirmOf, stepAnswer, steppedOf}
 use Rattle.paper.proofs.Opening.{opens-clear, boot-sound, sound-boot}
 use Rattle.paper.proofs.Writes.{length-writes, writes-row, writes-boot, writes-entry, writes-past, row-saves, row-is}
 
@@ -57,15 +56,6 @@ pub record Agreeing (f scan : List ℕ) (j : Job) (z : Sizes) : Type 0 where
   pub past : j .saves ≡ true → z .n < j .first
   pub within : j .saves ≡ true → j .first + countOf z j ≤ roomOf z (length f) + 1
   pub left : j .written ≤ countOf z j + 2
-
--- a test that is asked of a save alone
-asked : (b t : Bool) → cond b t true ≡ true → b ≡ true → t ≡ true
-asked true t e q = e
-asked false t e q = absurd (true≢false q refl)
-
-answered : (b t : Bool) → (b ≡ true → t ≡ true) → cond b t true ≡ true
-answered true t h = h refl
-answered false t h = refl
 
 module _ (f scan : List ℕ) (j : Job) where
   pub agreed : agrees f scan j ≡ true → Agreeing f scan j (sizesOf f)
@@ -139,11 +129,6 @@ module _ (f scan : List ℕ) (j : Job) (no : agrees f scan j ≡ false) where
 
 -- ---- a step where job and file agree: the file
 
--- the job one write on, expecting these 32 bytes
-abbrev pub advanced : Job → List ℕ → Job
-advanced j b =
-    record { saves = j .saves; slot = j .slot; size = j .size; span = j .span; first = j .first; written = j .written + 1; boot = b; about = j .about }
-
 module _ (f scan : List ℕ) (j : Job) (z : Sizes) (agree : agrees f scan j ≡ true) (reads : sizesOf f ≡ z) where
   pub step-file : stepFile f scan j ≡ perform f (writeAt z scan j)
   unfolding stepFile
@@ -179,17 +164,17 @@ module _ (f scan : List ℕ) (j : Job) (z : Sizes) (agree : agrees f scan j ≡ 
   none-left : countOf z j + 2 ≤ j .written → hasLeft z scan j ≡ false
   none-left h = le-ltb (j .written) (length (writesOf z j scan)) (omega (arith, length-writes z j scan))
 
-  step-job : stepJob f scan j ≡ cond (hasLeft z scan j) (moved z scan j) j
+  step-job : stepJob f scan j ≡ cond (hasLeft z scan j) (moved z j) j
   unfolding stepJob
-  step-job = subst (λ (y : Sizes). stepJob f scan j ≡ cond (hasLeft y scan j) (moved y scan j) j) reads (rw agree)
+  step-job = subst (λ (y : Sizes). stepJob f scan j ≡ cond (hasLeft y scan j) (moved y j) j) reads (rw agree)
 
-  pub job-moved : j .written < countOf z j + 2 → stepJob f scan j ≡ moved z scan j
+  pub job-moved : j .written < countOf z j + 2 → stepJob f scan j ≡ moved z j
   job-moved h = step-job ∙ rw (left-is h)
 
-  pub job-other : j .written < countOf z j + 2 → (j .written ≡ countOf z j → ⊥) → stepJob f scan j ≡ advanced j (j .boot)
+  pub job-other : j .written < countOf z j + 2 → (j .written ≡ countOf z j → ⊥) → stepJob f scan j ≡ placed j (j .written + 1) (j .boot)
   job-other h n = job-moved h ∙ rw (ne-eqb (j .written) (countOf z j) n)
 
-  pub job-boot : j .written ≡ countOf z j → stepJob f scan j ≡ advanced j (bootBytes (sizesAfter z j))
+  pub job-boot : j .written ≡ countOf z j → stepJob f scan j ≡ placed j (j .written + 1) (bootBytes (sizesAfter z j))
   job-boot h = job-moved (omega arith) ∙ rw (eq-eqb (j .written) (countOf z j) h)
 
   pub job-past : countOf z j + 2 ≤ j .written → stepJob f scan j ≡ j
@@ -219,12 +204,6 @@ module _ (f scan : List ℕ) (j : Job) (z : Sizes) (agree : agrees f scan j ≡ 
   answer-past h = step-answer ∙ rw (none-left h)
 
 -- ---- confirming
-
-abbrev standTests : List ℕ → List ℕ → Job → Sizes → List Bool
-standTests f scan j z =
-    same (entryAt f z (j .slot)) (entryAfter z j)
-    ∷ same (part (startOf z (j .first)) (startOf z (j .first) + countOf z j * z .l) f) (paddedOf z j scan)
-    ∷ []
 
 -- what `stands f scan j z ≡ true` says
 pub record Standing (f scan : List ℕ) (j : Job) (z : Sizes) : Type 0 where

@@ -17,11 +17,9 @@ use Rattle.paper.specs.declared.answer.Span.{Span}
 use Rattle.paper.specs.declared.answer.Span.the-variants as span
 use Rattle.paper.specs.declared.answer.Taken.{Taken}
 use Rattle.paper.specs.declared.answer.Taken.the-variants as taken
-use Rattle.paper.specs.declared.entry.Kind.{Kind}
-use Rattle.paper.specs.declared.entry.Kind.the-variants.{Spectral, Continuum, Other}
 use Rattle.paper.specs.declared.job.Step.{Step}
 use Rattle.paper.specs.declared.job.Step.the-variants as step
-use Rattle.paper.specs.Refusals.{numberOf, valueOf, Says, refuses, openedSays, listedSays, spanSays, takenSays, stepSays, KindSays, kindSays}
+use Rattle.paper.specs.Refusals.{numberOf, valueOf, Says, refuses, openedSays, listedSays, spanSays, takenSays, stepSays}
 
 -- what can be undone tells its arguments apart
 only : {A B : Type 0} (says : A → B) (back : B → A) → ((a : A) → back (says a) ≡ a) → (a b : A) → says a ≡ says b → a ≡ b
@@ -71,9 +69,6 @@ undo Disagrees = refl
 undo Differs = refl
 undo BadBlank = refl
 undo TooSmall = refl
-
-pub refusal-only : (a b : Refusal) → numberOf a ≡ numberOf b → valueOf a ≡ valueOf b → a ≡ b
-refusal-only a b p q = sym (undo a) ∙ ap (λ (n : ℕ). refusalAt n (valueOf a)) p ∙ ap (refusalAt (numberOf b)) q ∙ undo b
 
 -- no refusal has number 0, the number of what is accepted
 pub number-some : (r : Refusal) → numberOf r ≡ 0 → ⊥
@@ -148,21 +143,3 @@ undo-step (step.Refused r) = undo-refused done step.Refused r
 
 pub step-only : (a b : Step) → stepSays a ≡ stepSays b → a ≡ b
 step-only = only stepSays (answerAt done step.Refused) undo-step
-
--- ---- the kind of an entry
-
-abbrev kindAt : KindSays → Kind
-kindAt s =
-    getD
-    (Other (s .single) (s .double)
-    ∷ Continuum (s .code) (s .single) (s .double)
-    ∷ Spectral (s .code) (s .single) (s .double)
-    ∷ []) (s .number) (Other (s .single) (s .double))
-
-undo-kind : (a : Kind) → kindAt (kindSays a) ≡ a
-undo-kind (Other a b) = refl
-undo-kind (Continuum code a b) = refl
-undo-kind (Spectral code a b) = refl
-
-pub kind-only : (a b : Kind) → kindSays a ≡ kindSays b → a ≡ b
-kind-only = only kindSays kindAt undo-kind

@@ -1,5 +1,5 @@
 -- An accepted save, keep or clear: what it was accepted on, and that the job which it hands back is ready to be stepped.
-use Prim.Native.Nat.{ℕ, _+_, _-_, _*_, _≤_, _<_}
+use Prim.Native.Nat.{ℕ, _+_, _-_, _*_, _≤_}
 use mathlib.Core.Path.{_≡_, refl, sym, _∙_, ap, subst}
 use mathlib.Core.Bool.{true, false, not}
 use mathlib.Core.List.{List, [], _∷_, _++_}
@@ -7,8 +7,8 @@ use mathlib.Core.Logic.{_≢_}
 use native.Mathlib.Omega.{arith}
 use native.Mathlib.Nat.{add-mul, zero-mul}
 use borrow.Author.Tests.{ltb-false, leb-true, eqb-false, le-ltb, le-leb, ne-eqb, not-false}
-use lib.Dec.{leb, eqb}
-use lib.ListN.{length, take}
+use lib.Dec.{eqb}
+use lib.ListN.{length}
 use Rattle.lent.specs.Checks.{Check, check, Fired, clear, fires, fired, answer, judge}
 use Rattle.lent.specs.Least.{Lowest}
 use Rattle.lent.specs.Lists.{all}
@@ -28,10 +28,10 @@ use Rattle.paper.specs.declared.answer.Ruled.the-variants.{Keeps}
 use Rattle.paper.specs.declared.answer.Taken.the-variants.{Accepted}
 use Rattle.paper.specs.declared.job.Job.{Job}
 use Rattle.paper.specs.Sizes.{sizesOf, capacityOf, startOf, roomOf}
-use Rattle.paper.specs.Index.{runOf, empty, openChecks, openOf, Lies, Sound}
+use Rattle.paper.specs.Index.{runOf, empty, Full, openChecks, openOf, Lies, Sound}
 use Rattle.paper.specs.Scan.{headlen, datalen, ruledOf}
-use Rattle.paper.specs.Look.{noSlot, noScan, slotChecks}
-use Rattle.paper.specs.Store.{recordsFor, runFrom, emptySlot, refused, accepted, placeFor, saveJob, clearJob, reasonOf, scanChecks, saveOf, keepSlot, keepOf, clearOf, dataFrom, dataWrites, sizesAfter, entryAfter}
+use Rattle.paper.specs.Look.{slotTests, noSlot, noScan, slotChecks}
+use Rattle.paper.specs.Store.{recordsFor, runFrom, emptySlot, refused, accepted, placeFor, savesAt, saveJob, clearJob, reasonOf, scanChecks, saveOf, keepSlot, keepOf, clearOf, dataFrom, dataWrites, sizesAfter, entryAfter}
 use Rattle.paper.proofs.Opening.{full-facts, facts-full, full-holds, then-clear, then-opens, open-sound, empty-lies}
 use Rattle.paper.proofs.Rules.{keeps-lengths}
 use Rattle.paper.proofs.Reasons.{no-reason}
@@ -50,11 +50,6 @@ pub record Begins (z : Sizes) (f scan : List ℕ) (j : Job) : Type 0 where
   pub fresh : j .written ≡ 0
 
 -- ---- a save
-
--- a save's job, at a place r
-abbrev savesAt : List ℕ → ℕ → List ℕ → List ℕ → ℕ → Job
-savesAt f slot scan about r =
-    record { saves = true; slot = slot; size = length scan; span = length f; first = r; written = 0; boot = take 32 f; about = about }
 
 module _ {f : List ℕ} {z : Sizes} (S : Sound f z) (slot : ℕ) (scan about : List ℕ) (k54 : length about ≡ 54) (s₁ : 1 ≤ slot) (s₂ : slot ≤ capacityOf z)
     (long : 256 ≤ length scan) (r : ℕ) (F : FreeAt z (length f) (runOf f z) (recordsFor z (length scan)) r) where
@@ -136,7 +131,7 @@ module _ {f : List ℕ} {z : Sizes} (S : Sound f z) (slot : ℕ) (scan about : L
 -- ---- a clear
 
 module _ {f : List ℕ} {z : Sizes} (S : Sound f z) (slot : ℕ) (s₁ : 1 ≤ slot) (s₂ : slot ≤ capacityOf z)
-    (there : 0 < runOf f z slot .first + runOf f z slot .last) where
+    (there : Full (runOf f z slot)) where
   abbrev q : Job
   q = clearJob f slot
 
@@ -213,13 +208,13 @@ pub record InIndex (z : Sizes) (slot : ℕ) : Type 0 where
   pub low : 1 ≤ slot
   pub high : slot ≤ capacityOf z
 
-pub slot-facts : (z : Sizes) (slot : ℕ) → not (all (leb 1 slot ∷ leb slot (capacityOf z) ∷ [])) ≡ false → InIndex z slot
+pub slot-facts : (z : Sizes) (slot : ℕ) → not (all (slotTests z slot)) ≡ false → InIndex z slot
 slot-facts z slot e =
-    let t = all-true (leb 1 slot ∷ leb slot (capacityOf z) ∷ []) (not-false _ e) in
+    let t = all-true (slotTests z slot) (not-false _ e) in
     record { low = leb-true _ _ (t .0); high = leb-true _ _ (t .1 .0) }
 
-pub facts-slot : (z : Sizes) (slot : ℕ) → InIndex z slot → not (all (leb 1 slot ∷ leb slot (capacityOf z) ∷ [])) ≡ false
-facts-slot z slot h = ap not (true-all (leb 1 slot ∷ leb slot (capacityOf z) ∷ []) (le-leb _ _ (h .low), (le-leb _ _ (h .high), tt)))
+pub facts-slot : (z : Sizes) (slot : ℕ) → InIndex z slot → not (all (slotTests z slot)) ≡ false
+facts-slot z slot h = ap not (true-all (slotTests z slot) (le-leb _ _ (h .low), (le-leb _ _ (h .high), tt)))
 
 pub record SaveTaken (f : List ℕ) (slot : ℕ) (scan : List ℕ) : Type 0 where
   pub opens : openOf f ≡ Opens (sizesOf f)
@@ -276,7 +271,7 @@ keep-slotted f h =
 pub record ClearTaken (f : List ℕ) (slot : ℕ) : Type 0 where
   pub opens : openOf f ≡ Opens (sizesOf f)
   pub slotted : InIndex (sizesOf f) slot
-  pub full : 0 < runOf f (sizesOf f) slot .first + runOf f (sizesOf f) slot .last
+  pub full : Full (runOf f (sizesOf f) slot)
 
 module _ (f : List ℕ) (slot : ℕ) where
   abbrev ownChecks : List (Check Refusal)

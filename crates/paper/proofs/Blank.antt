@@ -2,12 +2,11 @@
 use Prim.Native.Nat.{ℕ, _+_, _-_, _*_, _≤_}
 use mathlib.Core.Path.{_≡_, refl, sym, _∙_, ap}
 use mathlib.Core.Bool.{not}
-use mathlib.Core.List.{List, [], _∷_, _++_, append-assoc}
+use mathlib.Core.List.{List, _++_, append-assoc}
 use mathlib.Core.Logic.{_≢_}
 use native.Mathlib.Omega.{arith}
 use native.Mathlib.Nat.{add-zero, zero-add}
 use borrow.Author.Tests.{leb-true, le-leb, not-false}
-use lib.Dec.{leb}
 use lib.ListN.{length, drop}
 use Rattle.lent.specs.Checks.{Fired, clear, fires, fired, answer}
 use Rattle.lent.specs.Number.{big, be32}
@@ -21,9 +20,9 @@ use Rattle.paper.specs.declared.sizes.Sizes.{Sizes}
 use Rattle.paper.specs.declared.sizes.Run.{Run}
 use Rattle.paper.specs.declared.refusal.Refusal.{Refusal}
 use Rattle.paper.specs.declared.answer.Taken.the-variants.{Accepted, Refused}
-use Rattle.paper.specs.Sizes.{sizesOf, versionOf, bootBytes, capacityOf, homeOf, roomOf, shaped, Shaped, Ranged}
+use Rattle.paper.specs.Sizes.{sizesOf, versionOf, bootBytes, capacityOf, homeOf, roomOf, Shaped, Ranged}
 use Rattle.paper.specs.Index.{runOf, Sound}
-use Rattle.paper.specs.Store.{blankSizes, blankChecks, blankOf, blankFile, freeAt, freePlace}
+use Rattle.paper.specs.Store.{blankSizes, blankTests, blankChecks, blankOf, blankFile, freeAt, freePlace}
 use Rattle.paper.proofs.Sizing.{head-long, home-end}
 use Rattle.paper.proofs.Opening.{shaped-facts, facts-shaped}
 use Rattle.paper.proofs.Encoding.{length-boot, sizes-back, version-back}
@@ -49,12 +48,12 @@ module _ (f : List ℕ) (n l m : ℕ) where
   pub blank-facts : blankOf f n l m ≡ Accepted → Blankable f (blankSizes n l m)
   blank-facts e =
       let c = clear-all (blankChecks f z) (blank-clear e) in
-      let t = all-true (shaped z ∷ leb (z .n * z .l) (length f) ∷ []) (not-false _ (c .0)) in
+      let t = all-true (blankTests (length f) z) (not-false _ (c .0)) in
       record { shape = shaped-facts z (t .0); fits = leb-true _ _ (t .1 .0) }
 
   facts-clear : Blankable f z → fired (blankChecks f z) ≡ clear
   facts-clear h =
-      all-clear (blankChecks f z) (ap not (true-all (shaped z ∷ leb (z .n * z .l) (length f) ∷ []) (facts-shaped z (h .shape), (le-leb _ _ (h .fits), tt))), tt)
+      all-clear (blankChecks f z) (ap not (true-all (blankTests (length f) z) (facts-shaped z (h .shape), (le-leb _ _ (h .fits), tt))), tt)
 
   pub facts-blank : Blankable f (blankSizes n l m) → blankOf f n l m ≡ Accepted
   unfolding blankOf

@@ -4,9 +4,9 @@ use mathlib.Core.Path.{_≡_, sym, _∙_, ap, subst}
 use mathlib.Core.List.{List}
 use native.Mathlib.Omega.{arith}
 use lib.ListN.{length, take}
-use Rattle.lent.specs.Part.{Same}
+use Rattle.lent.specs.Part.{Alike}
 use Rattle.lent.specs.Write.{write}
-use Rattle.lent.proofs.Parts.{same-after, part-in}
+use Rattle.lent.proofs.Parts.{alike-after, part-in}
 use Rattle.lent.proofs.Writes.{length-write}
 use Rattle.paper.specs.declared.sizes.Sizes.{Sizes}
 use Rattle.paper.specs.declared.sizes.Run.{Run}
@@ -77,8 +77,8 @@ module _ {f : List ℕ} {z : Sizes} {d u : ℕ} (S : Sound f z) (C : Covers z (r
   len : length g ≡ length f
   len = length-write f 0 (bootBytes y) fits
 
-  same : Same f g 32 (length f)
-  same = same-after f 0 (bootBytes y) (omega arith) 32 (length f) (omega (arith, length-boot y))
+  same : Alike f g 32 (length f)
+  same = alike-after f 0 (bootBytes y) (omega arith) 32 (length f) (omega (arith, length-boot y))
 
   runs : (s : ℕ) → 1 ≤ s → s ≤ capacityOf z → runOf g z s ≡ runOf f z s
   runs s a b =

@@ -1,17 +1,16 @@
--- Where the classes and the data of a scan that keeps the rules lie: class 1 from byte 32, each to the next one's start, the last to HEADLEN, then the data.
+-- Where the classes and the data of a scan that keeps the rules lie: no class is empty, all lie between byte 32 and HEADLEN; then the data.
 use Prim.Native.Nat.{ℕ, zero, suc, _+_, _-_, _≤_, _<_}
-use mathlib.Core.Path.{_≡_, refl, sym, _∙_, ap, subst}
+use mathlib.Core.Path.{_≡_, refl, sym, ap, subst}
 use mathlib.Core.Bool.{Bool, true, false}
-use mathlib.Core.List.{List, [], _∷_}
+use mathlib.Core.List.{List}
 use native.Mathlib.Omega.{arith}
 use mathlib.Core.Logic.{⊎-elim}
-use lib.Dec.{leb}
 use lib.IntN.{ℤ, pos, negsuc}
 use lib.ListN.{take, getD}
 use lib.Seq.{length-take-le, getD-take}
 use lib.Signed.{ltZ}
-use borrow.Author.Tests.{ltb-true, leb-true, le-leb, eq-eqb, ne-eqb}
-use Rattle.lent.proofs.Lists.{true≢false, lt-or-ge, no-all, every-all}
+use borrow.Author.Tests.{ltb-true, eq-eqb, ne-eqb}
+use Rattle.lent.proofs.Lists.{true≢false, lt-or-ge, every-all}
 use Rattle.paper.specs.declared.answer.Ruled.the-variants.{Keeps, Breaks}
 use Rattle.paper.specs.declared.answer.Span.the-variants.{Part, Refused}
 use Rattle.paper.specs.declared.refusal.Refusal.the-variants.{BadScan}
@@ -54,10 +53,6 @@ module _ (s : List ℕ) {saving : Bool} {head rest : ℕ} (k : Kept s saving hea
   head-long = omega (arith, last-long, k .four .2, k .head-is)
 
   -- ---- the classes, number 1 to the count
-
-  pub class-first : classAt (startsOf s) 0 ≡ 32
-  unfolding classAt
-  class-first = omega (arith, k .three .0)
 
   pub record Lies (number : ℕ) : Type 0 where
     pub from : 32 ≤ classAt (startsOf s) (number - 1)
@@ -104,17 +99,6 @@ module _ (s : List ℕ) {head rest : ℕ} (e : ruledOf s false ≡ Keeps head re
   pub class-in : (number : ℕ) → classOf s number ≡ classIn (startsOf s) (classesOf s) head number
   unfolding classOf
   class-in number = rw e
-
-  pub class-is : (number : ℕ) → 1 ≤ number → number ≤ classesOf s
-      → classOf s number ≡ Part (classAt (startsOf s) (number - 1)) (classEnd (startsOf s) (classesOf s) head number)
-  unfolding classIn
-  class-is number lo hi = class-in number ∙ rw (le-leb 1 number lo, le-leb number (classesOf s) hi)
-
-  pub class-none : (number : ℕ) → (1 ≤ number → number ≤ classesOf s → ⊥) → classOf s number ≡ Part 0 0
-  unfolding classIn
-  class-none number h =
-      let no = no-all (leb 1 number ∷ leb number (classesOf s) ∷ []) (λ a. h (leb-true _ _ (a .0)) (leb-true _ _ (a .1 .0))) in
-      class-in number ∙ rw (sym no)
 
   pub data-is : dataOf s ≡ Part head (head + rest)
   unfolding dataOf

@@ -24,7 +24,7 @@ use Rattle.paper.specs.Sizes.{sizesOf, startOf}
 use Rattle.paper.specs.Index.{runOf, shownOf, entryAt, openOf}
 use Rattle.paper.specs.Entry.{entryBytes}
 use Rattle.paper.specs.Store.{recordsFor, runFrom, countOf, writesOf}
-use Rattle.paper.specs.Step.{agrees, hasLeft, writeAt, stands, confirmed, confirmOf, stepAnswer}
+use Rattle.paper.specs.Step.{agrees, hasLeft, writeAt, stands, confirmed, isConfirmed, confirmOf, stepAnswer}
 use Rattle.paper.proofs.Opening.{open-reads}
 use Rattle.paper.proofs.Writes.{length-writes}
 use Rattle.paper.proofs.Encoding.{statedBy, entry-run, entry-states, zeros-state}
@@ -37,15 +37,26 @@ pub record Confirms (f scan : List ℕ) (j : Job) (z : Sizes) : Type 0 where
   pub opens : openOf f ≡ Opens z
   pub standing : Standing f scan j z
 
--- neither a refusal nor a write
-abbrev pub isConfirming : Step → Bool
-isConfirming (Wrote r count) = false
-isConfirming (Saved r count) = true
-isConfirming (Cleared r count) = true
-isConfirming (Refused r) = false
+-- a save is confirmed by Saved, a clear by Cleared
+abbrev ending : Bool → ℕ → ℕ → Step
+ending saves r c = cond saves (Saved r c) (Cleared r c)
 
-never : (x s : Step) → isConfirming x ≡ false → isConfirming s ≡ true → x ≡ s → ⊥
-never x s p q e = true≢false q (ap isConfirming (sym e) ∙ p)
+abbrev isSaved : Step → Bool
+isSaved (Wrote r count) = false
+isSaved (Saved r count) = true
+isSaved (Cleared r count) = false
+isSaved (Refused r) = false
+
+ending-confirms : (saves : Bool) (r c : ℕ) → isConfirmed (ending saves r c) ≡ true
+ending-confirms true r c = refl
+ending-confirms false r c = refl
+
+ending-saves : (saves : Bool) (r c : ℕ) → isSaved (ending saves r c) ≡ saves
+ending-saves true r c = refl
+ending-saves false r c = refl
+
+never : (x s : Step) → isConfirmed x ≡ false → isConfirmed s ≡ true → x ≡ s → ⊥
+never x s p q e = true≢false q (ap isConfirmed (sym e) ∙ p)
 
 module _ (f scan : List ℕ) (j : Job) where
   pub record Came (s : Step) : Type 0 where
@@ -61,54 +72,33 @@ module _ (f scan : List ℕ) (j : Job) where
       subst (λ (y : Sizes). length (writesOf y j scan) ≤ j .written) r (ltb-false (j .written) (length (writesOf (sizesOf f) j scan)) q) in
       record { agreeing = a; done = omega (arith, a .left, length-writes z j scan); opens = e; standing = stood f scan j z t }
 
-  stood-came : (z : Sizes) (b : Bool) (s : Step) → (b ≡ true → Confirms f scan j z) → cond b (confirmed j) (Refused Differs) ≡ s → isConfirming s ≡ true → Came s
+  stood-came : (z : Sizes) (b : Bool) (s : Step) → (b ≡ true → Confirms f scan j z) → cond b (confirmed j) (Refused Differs) ≡ s → isConfirmed s ≡ true → Came s
   stood-came z true s k h c = record { z = z; facts = k refl; is = sym h }
   stood-came z false s k h c = absurd (never (Refused Differs) s refl c h)
 
   -- by what the step came to
   came : (a left : Bool) (o : Opened) (s : Step) → agrees f scan j ≡ a → hasLeft (sizesOf f) scan j ≡ left → openOf f ≡ o
       → cond a (cond left (Wrote (writeAt (sizesOf f) scan j .record-no) (j .written + 1)) (confirmOf f scan j o)) (Refused Disagrees) ≡ s
-      → isConfirming s ≡ true → Came s
+      → isConfirmed s ≡ true → Came s
   came false left o s p q e h c = absurd (never (Refused Disagrees) s refl c h)
   came true true o s p q e h c = absurd (never (Wrote (writeAt (sizesOf f) scan j .record-no) (j .written + 1)) s refl c h)
   came true false (opened.Refused r) s p q e h c = absurd (never (Refused r) s refl c h)
   came true false (opened.Opens z) s p q e h c = stood-came z (stands f scan j z) s (facts z p q e) h c
 
-  pub confirm-came : (s : Step) → stepAnswer f scan j ≡ s → isConfirming s ≡ true → Came s
+  pub confirm-came : (s : Step) → stepAnswer f scan j ≡ s → isConfirmed s ≡ true → Came s
   unfolding stepAnswer
   confirm-came s h c = came (agrees f scan j) (hasLeft (sizesOf f) scan j) (openOf f) s refl refl refl h c
 
-  -- ---- Saved
-
-  pub record SavedFacts (r c : ℕ) : Type 0 where
+  -- Saved answers a save, and Cleared a clear
+  pub record Ended (saves : Bool) : Type 0 where
     pub z : Sizes
     pub facts : Confirms f scan j z
-    pub saves : j .saves ≡ true
-    pub none : r ≡ 0
-    pub count : c ≡ j .written
+    pub is : j .saves ≡ saves
 
-  pub saved-facts : {r c : ℕ} → stepAnswer f scan j ≡ Saved r c → SavedFacts r c
-  saved-facts {r} {c} e = let k = confirm-came (Saved r c) e refl in go (j .saves) refl k (k .is)
-    where
-      go : (b : Bool) → j .saves ≡ b → Came (Saved r c) → Saved r c ≡ cond b (Saved 0 (j .written)) (Cleared 0 (j .written)) → SavedFacts r c
-      go true q k h = record { z = k .z; facts = k .facts; saves = q; none = cc; count = cc }
-      go false q k h = let x : _≡_ {A = ℕ} 0 1 = cc in absurd (omega arith)
-
-  -- ---- Cleared
-
-  pub record ClearedFacts (r c : ℕ) : Type 0 where
-    pub z : Sizes
-    pub facts : Confirms f scan j z
-    pub clears : j .saves ≡ false
-    pub none : r ≡ 0
-    pub count : c ≡ j .written
-
-  pub cleared-facts : {r c : ℕ} → stepAnswer f scan j ≡ Cleared r c → ClearedFacts r c
-  cleared-facts {r} {c} e = let k = confirm-came (Cleared r c) e refl in go (j .saves) refl k (k .is)
-    where
-      go : (b : Bool) → j .saves ≡ b → Came (Cleared r c) → Cleared r c ≡ cond b (Saved 0 (j .written)) (Cleared 0 (j .written)) → ClearedFacts r c
-      go false q k h = record { z = k .z; facts = k .facts; clears = q; none = cc; count = cc }
-      go true q k h = let x : _≡_ {A = ℕ} 0 1 = cc in absurd (omega arith)
+  pub ended : (saves : Bool) (r c : ℕ) → stepAnswer f scan j ≡ ending saves r c → Ended saves
+  ended saves r c e =
+      let k = confirm-came (ending saves r c) e (ending-confirms saves r c) in
+      record { z = k .z; facts = k .facts; is = sym (ending-saves (j .saves) 0 (j .written)) ∙ ap isSaved (sym (k .is)) ∙ ending-saves saves r c }
 
 -- ---- what the slot then shows
 

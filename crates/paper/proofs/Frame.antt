@@ -6,10 +6,10 @@ use mathlib.Core.Logic.{⊎-elim}
 use native.Mathlib.Omega.{arith}
 use lib.ListN.{length}
 use Rattle.lent.specs.Number.{big, be32}
-use Rattle.lent.specs.Part.{part, Same}
+use Rattle.lent.specs.Part.{part, Alike}
 use Rattle.lent.proofs.Lists.{lt-or-ge}
 use Rattle.lent.proofs.Numbers.{number-same}
-use Rattle.lent.proofs.Parts.{part-same, same-within}
+use Rattle.lent.proofs.Parts.{part-same, alike-within}
 use Rattle.paper.specs.declared.sizes.Sizes.{Sizes}
 use Rattle.paper.specs.declared.sizes.Run.{Run}
 use Rattle.paper.specs.Sizes.{capacityOf, startOf, homeOf}
@@ -29,7 +29,7 @@ laid-same u e L =
 
 module _ (f g : List ℕ) where
   -- the bootstrap is read from the first 32 bytes
-  pub booted-same : {z : Sizes} → length g ≡ length f → Same f g 0 32 → Booted f z → Booted g z
+  pub booted-same : {z : Sizes} → length g ≡ length f → Alike f g 0 32 → Booted f z → Booted g z
   booted-same {z} e h b =
       let word : (o : ℕ) → o + 4 ≤ 32 → be32 g o ≡ be32 f o = λ o k. number-same big 4 f g 0 32 o h (omega arith) k in
       record {
@@ -51,7 +51,7 @@ module _ (f g : List ℕ) where
       }
 
   -- a run from the first 8 bytes of its entry
-  pub run-same : (z : Sizes) (s : ℕ) → Same f g (homeOf z s) (homeOf z s + 8) → runOf g z s ≡ runOf f z s
+  pub run-same : (z : Sizes) (s : ℕ) → Alike f g (homeOf z s) (homeOf z s + 8) → runOf g z s ≡ runOf f z s
   run-same z s h =
       rw (
         number-same big 4 f g (homeOf z s) (homeOf z s + 8) (homeOf z s) h (omega arith) (omega arith),
@@ -60,12 +60,12 @@ module _ (f g : List ℕ) where
 
   -- and what a slot shows from its run and the bytes of its records
   pub shown-same : (z : Sizes) (s : ℕ) → length g ≡ length f → runOf g z s ≡ runOf f z s
-      → Same f g (startOf z (runOf f z s .first)) (runOf f z s .last * z .l) → shownOf g z s ≡ shownOf f z s
+      → Alike f g (startOf z (runOf f z s .first)) (runOf f z s .last * z .l) → shownOf g z s ≡ shownOf f z s
   shown-same z s e r h =
       ap (λ (x : Run). part (startOf z (x .first)) (x .last * z .l) g) r
       ∙ part-same f g (startOf z (runOf f z s .first)) (runOf f z s .last * z .l) e h
 
-  pub entry-same : (z : Sizes) (s : ℕ) → length g ≡ length f → Same f g (homeOf z s) (homeOf z s + z .m) → entryAt g z s ≡ entryAt f z s
+  pub entry-same : (z : Sizes) (s : ℕ) → length g ≡ length f → Alike f g (homeOf z s) (homeOf z s + z .m) → entryAt g z s ≡ entryAt f z s
   entry-same z s e h = part-same f g (homeOf z s) (homeOf z s + z .m) e h
 
 -- ---- the law
@@ -87,18 +87,18 @@ kept-then p q =
 -- g has f's bytes in bootstrap, index and every listed scan: what may differ is the rest of the data section
 pub record Frame (z : Sizes) (f g : List ℕ) : Type 0 where
   pub len : length g ≡ length f
-  pub head : Same f g 0 (z .n * z .l)
-  pub body : (s : ℕ) → 1 ≤ s → s ≤ z .u → Same f g (startOf z (runOf f z s .first)) (runOf f z s .last * z .l)
+  pub head : Alike f g 0 (z .n * z .l)
+  pub body : (s : ℕ) → 1 ≤ s → s ≤ z .u → Alike f g (startOf z (runOf f z s .first)) (runOf f z s .last * z .l)
 
 module _ {z : Sizes} {f g : List ℕ} (S : Sound f z) (F : Frame z f g) where
-  home-same : (s n : ℕ) → 1 ≤ s → s ≤ capacityOf z → n ≤ z .m → Same f g (homeOf z s) (homeOf z s + n)
-  home-same s n a b h = same-within f g (omega arith) (omega (arith, home-end z (S .booted .ranged .shape) s a b)) (F .head)
+  home-same : (s n : ℕ) → 1 ≤ s → s ≤ capacityOf z → n ≤ z .m → Alike f g (homeOf z s) (homeOf z s + n)
+  home-same s n a b h = alike-within f g (omega arith) (omega (arith, home-end z (S .booted .ranged .shape) s a b)) (F .head)
 
   runs : (s : ℕ) → 1 ≤ s → s ≤ capacityOf z → runOf g z s ≡ runOf f z s
   runs s a b = run-same f g z s (home-same s 8 a b (omega (arith, S .booted .ranged .shape .m-low)))
 
   -- an empty slot has no bytes
-  body : (s : ℕ) → 1 ≤ s → s ≤ capacityOf z → Same f g (startOf z (runOf f z s .first)) (runOf f z s .last * z .l)
+  body : (s : ℕ) → 1 ≤ s → s ≤ capacityOf z → Alike f g (startOf z (runOf f z s .first)) (runOf f z s .last * z .l)
   body s a b i lo hi =
       ⊎-elim
       (λ (h : z .u < s).
@@ -118,6 +118,6 @@ module _ {z : Sizes} {f g : List ℕ} (S : Sound f z) (F : Frame z f g) where
   pub frame-sound : Sound g z
   frame-sound =
       record {
-        booted = booted-same f g (F .len) (same-within f g (omega arith) (omega (arith, head-long z (S .booted .ranged .shape))) (F .head)) (S .booted);
+        booted = booted-same f g (F .len) (alike-within f g (omega arith) (omega (arith, head-long z (S .booted .ranged .shape))) (F .head)) (S .booted);
         laid = laid-same (S .booted .ranged .used) runs (S .laid);
       }

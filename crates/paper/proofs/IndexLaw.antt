@@ -2,14 +2,13 @@
 use Prim.Native.Nat.{ℕ, _+_, _*_, _≤_, _<_}
 use mathlib.Core.Path.{_≡_, sym, _∙_, ap, subst}
 use mathlib.Core.List.{List}
-use mathlib.Core.Logic.{_≢_, _⊎_, inl, inr, ⊎-elim}
-use native.Mathlib.Decide.{ℕ-discrete}
+use mathlib.Core.Logic.{_≢_, ⊎-elim}
 use native.Mathlib.Omega.{arith}
 use lib.ListN.{length}
-use Rattle.lent.specs.Part.{part, Same}
+use Rattle.lent.specs.Part.{part, Alike}
 use Rattle.lent.specs.Write.{write}
-use Rattle.lent.proofs.Lists.{lt-or-ge}
-use Rattle.lent.proofs.Parts.{part-same, same-before, same-after}
+use Rattle.lent.proofs.Lists.{lt-or-ge, same-or}
+use Rattle.lent.proofs.Parts.{part-same, alike-before, alike-after}
 use Rattle.lent.proofs.Writes.{length-write}
 use Rattle.paper.specs.declared.sizes.Sizes.{Sizes}
 use Rattle.paper.specs.declared.sizes.Run.{Run}
@@ -19,9 +18,6 @@ use Rattle.paper.proofs.Sizing.{home-end, home-next, home-in}
 use Rattle.paper.proofs.Opening.{inside-all, lies-end, lies-past}
 use Rattle.paper.proofs.Encoding.{statedBy, run-back, entry-back}
 use Rattle.paper.proofs.Frame.{booted-same, run-same, shown-same, entry-same}
-
-pub same-or : (a b : ℕ) → (a ≡ b) ⊎ (a ≢ b)
-same-or a b = elim (ℕ-discrete a b) [ yes h ↦ inl h | no h ↦ inr h ]
 
 -- the run shares no record with another slot's
 abbrev pub Alone : Sizes → (ℕ → Run) → ℕ → Run → Type 0
@@ -72,17 +68,17 @@ module _ {f : List ℕ} {z : Sizes} (S : Sound f z) (s : ℕ) (s₁ : 1 ≤ s) (
   index-length = length-write f (homeOf z s) e fits
 
   -- the entries of other slots, bootstrap and data are as they were
-  other : (t n : ℕ) → 1 ≤ t → t ≢ s → n ≤ z .m → Same f g (homeOf z t) (homeOf z t + n)
+  other : (t n : ℕ) → 1 ≤ t → t ≢ s → n ≤ z .m → Alike f g (homeOf z t) (homeOf z t + n)
   other t n a ne h =
       let r = S .booted .ranged .shape in
       ⊎-elim
-      (λ (k : t < s). same-before f (homeOf z s) e starts (homeOf z t) (homeOf z t + n) (omega (arith, home-next z r t s a k)))
-      (λ (k : s ≤ t). same-after f (homeOf z s) e starts (homeOf z t) (homeOf z t + n) (omega (arith, home-next z r s t s₁ (omega arith))))
+      (λ (k : t < s). alike-before f (homeOf z s) e starts (homeOf z t) (homeOf z t + n) (omega (arith, home-next z r t s a k)))
+      (λ (k : s ≤ t). alike-after f (homeOf z s) e starts (homeOf z t) (homeOf z t + n) (omega (arith, home-next z r s t s₁ (omega arith))))
       (lt-or-ge t s)
 
-  data-same : {r : Run} → Lies z r → Same f g (startOf z (r .first)) (r .last * z .l)
+  data-same : {r : Run} → Lies z r → Alike f g (startOf z (r .first)) (r .last * z .l)
   data-same h i lo hi =
-      same-after f (homeOf z s) e starts (z .n * z .l) (length f) (omega (arith, home-end z (S .booted .ranged .shape) s s₁ s₂)) i
+      alike-after f (homeOf z s) e starts (z .n * z .l) (length f) (omega (arith, home-end z (S .booted .ranged .shape) s s₁ s₂)) i
       (lies-past (S .booted) h i lo hi) (omega (arith, lies-end (S .booted) h))
 
   pub run-new : runOf (write f (homeOf z s) e) z s ≡ statedBy e
@@ -106,8 +102,8 @@ module _ {f : List ℕ} {z : Sizes} (S : Sound f z) (s : ℕ) (s₁ : 1 ≤ s) (
   entry-other t a ne = entry-same f g z t index-length (other t (z .m) a ne (omega arith))
 
   -- record 1 lies before every entry
-  pub index-head : Same f (write f (homeOf z s) e) 0 32
-  index-head = same-before f (homeOf z s) e starts 0 32 (omega (arith, S .booted .ranged .shape .l-low))
+  pub index-head : Alike f (write f (homeOf z s) e) 0 32
+  index-head = alike-before f (homeOf z s) e starts 0 32 (omega (arith, S .booted .ranged .shape .l-low))
 
   pub index-sound : Sound (write f (homeOf z s) e) z
   index-sound =

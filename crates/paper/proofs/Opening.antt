@@ -1,26 +1,24 @@
 -- A file opens exactly where it is sound: what each test of the sizes and of the index says in plain facts, both ways, and what follows for the judgements.
 use Prim.Native.Nat.{ℕ, _+_, _-_, _*_, _≤_, _<_, max}
 use mathlib.Core.Path.{_≡_, refl, sym, _∙_, ap, subst}
-use mathlib.Core.Bool.{Bool, true, false, not}
-use mathlib.Core.List.{List, [], _∷_, _++_, List·Memᴰ}
+use mathlib.Core.Bool.{true, false, not}
+use mathlib.Core.List.{List, _∷_, _++_, List·Memᴰ}
 use mathlib.Core.Logic.{_≢_, ⊎-elim}
 use native.Mathlib.Omega.{arith}
 use native.Mathlib.Nat.{mul-le-mul-right}
-use lib.Dec.{ltb}
 use lib.ListN.{length}
 use borrow.Author.Tests.{ltb-true, ltb-false, leb-true, eqb-true, eqb-false, lt-ltb, le-ltb, le-leb, eq-eqb, ne-eqb, not-true, not-false}
 use Rattle.lent.specs.Lists.{those}
-use Rattle.lent.specs.Least.{least, None}
 use Rattle.lent.specs.Checks.{Check, clear, fires, fired, judge}
 use Rattle.lent.proofs.Lists.{All, all-true, true-all, true≢false, not-so, either, lt-or-ge, those-mem, mem-those, those-more}
-use Rattle.lent.proofs.Leasts.{View, nothing, lowest, view, least-none, none-least, least-lowest, none-test, test-none}
+use Rattle.lent.proofs.Leasts.{least-none, none-least, none-test, test-none}
 use Rattle.lent.proofs.Checks.{Clear, clear-all, all-clear, clear-append, fires-append, append-clear, judge-clear, judge-fires, judge-passed, judge-refused, judge-append}
 use Rattle.paper.specs.declared.sizes.Sizes.{Sizes}
 use Rattle.paper.specs.declared.sizes.Run.{Run}
 use Rattle.paper.specs.declared.refusal.Refusal.{Refusal}
 use Rattle.paper.specs.declared.answer.Opened.the-variants.{Opens, Refused}
 use Rattle.paper.specs.Sizes.{sizesOf, versionOf, capacityOf, startOf, shapeTests, shaped, countTests, inRange, bootChecks, Shaped, Ranged}
-use Rattle.paper.specs.Index.{runOf, empty, dataTests, inData, badAt, aboveAt, shareTests, shares, sharer, sharedAt, indexChecks, openChecks, bootOf, indexOf, openOf, slotsOf, Lies, Laid, Booted, Sound}
+use Rattle.paper.specs.Index.{runOf, empty, Full, dataTests, inData, badTests, badAt, aboveTests, aboveAt, shareTests, shares, sharer, sharedAt, indexChecks, openChecks, bootOf, indexOf, openOf, slotsOf, Lies, Laid, Booted, Sound}
 
 -- ---- the sizes
 
@@ -53,11 +51,11 @@ module _ (r : Run) where
   unfolding empty
   facts-empty h = eq-eqb _ _ h
 
-  pub full-facts : empty r ≡ false → 0 < r .first + r .last
+  pub full-facts : empty r ≡ false → Full r
   unfolding empty
-  full-facts h = ⊎-elim (λ (a : 0 < r .first + r .last). a) (λ (a : r .first + r .last ≤ 0). absurd (eqb-false (r .first + r .last) 0 h (omega arith))) (lt-or-ge 0 (r .first + r .last))
+  full-facts h = ⊎-elim (λ (a : Full r). a) (λ (a : r .first + r .last ≤ 0). absurd (eqb-false (r .first + r .last) 0 h (omega arith))) (lt-or-ge 0 (r .first + r .last))
 
-  pub facts-full : 0 < r .first + r .last → empty r ≡ false
+  pub facts-full : Full r → empty r ≡ false
   unfolding empty
   facts-full h = ne-eqb (r .first + r .last) 0 (λ e. omega arith)
 
@@ -83,7 +81,7 @@ module _ (z : Sizes) (r : Run) where
   pub data-lies : InData z r → Lies z r
   data-lies h = record { low = λ k. h .low; order = λ k. h .order; high = h .high }
 
-  pub lies-data : Lies z r → 0 < r .first + r .last → InData z r
+  pub lies-data : Lies z r → Full r → InData z r
   lies-data h k = record { low = h .low k; order = h .order k; high = h .high }
 
 module _ (z : Sizes) (run : ℕ → Run) (s : ℕ) where
@@ -94,7 +92,7 @@ module _ (z : Sizes) (run : ℕ → Run) (s : ℕ) where
       ⊎-elim (λ (a : empty (run s) ≡ true). empty-lies z (run s) (empty-facts (run s) a))
       (λ (a : empty (run s) ≡ false).
       ⊎-elim (λ (b : inData z (run s) ≡ true). data-lies z (run s) (data-facts z (run s) b))
-      (λ (b : inData z (run s) ≡ false). absurd (true≢false (true-all (not (empty (run s)) ∷ not (inData z (run s)) ∷ []) (ap not a, (ap not b, tt))) h))
+      (λ (b : inData z (run s) ≡ false). absurd (true≢false (true-all (badTests z (run s)) (ap not a, (ap not b, tt))) h))
       (either (inData z (run s))))
       (either (empty (run s)))
 
@@ -102,7 +100,7 @@ module _ (z : Sizes) (run : ℕ → Run) (s : ℕ) where
   unfolding badAt
   lies-good h =
       not-so (λ e.
-      let t = all-true (not (empty (run s)) ∷ not (inData z (run s)) ∷ []) e in
+      let t = all-true (badTests z (run s)) e in
       true≢false (facts-data z (run s) (lies-data z (run s) h (full-facts (run s) (not-true _ (t .0))))) (not-true _ (t .1 .0)))
 
   -- an entry above U is empty
@@ -110,14 +108,14 @@ module _ (z : Sizes) (run : ℕ → Run) (s : ℕ) where
   unfolding aboveAt
   above-facts h l =
       ⊎-elim (λ (a : empty (run s) ≡ true). empty-facts (run s) a)
-      (λ (a : empty (run s) ≡ false). absurd (true≢false (true-all (ltb (z .u) s ∷ not (empty (run s)) ∷ []) (lt-ltb _ _ l, (ap not a, tt))) h))
+      (λ (a : empty (run s) ≡ false). absurd (true≢false (true-all (aboveTests z run s) (lt-ltb _ _ l, (ap not a, tt))) h))
       (either (empty (run s)))
 
   pub facts-above : (z .u < s → run s .first + run s .last ≡ 0) → aboveAt z run s ≡ false
   unfolding aboveAt
   facts-above h =
       not-so (λ e.
-      let t = all-true (ltb (z .u) s ∷ not (empty (run s)) ∷ []) e in
+      let t = all-true (aboveTests z run s) e in
       true≢false (facts-empty (run s) (h (ltb-true _ _ (t .0)))) (not-true _ (t .1 .0)))
 
 -- ---- two entries that share a record
@@ -181,9 +179,6 @@ module _ (run : ℕ → Run) (s : ℕ) where
   unfolding sharedAt
   facts-shared h =
       le-ltb 0 (sharer run (run s) (s - 1)) (omega (arith, none-sharer run (run s) (s - 1) (λ t a b. h t a (omega arith))))
-
-  pub empty-apart : run s .first + run s .last ≡ 0 → sharedAt run s ≡ false
-  empty-apart e = facts-shared (λ t a b h. omega arith)
 
 -- ---- the judgements: of the bootstrap
 
@@ -317,10 +312,6 @@ module _ (f : List ℕ) where
   unfolding openOf
   open-fires {r} e = refused-fires (openChecks f) (sizesOf f) r e
 
-  pub fires-open : {r : Refusal} → fired (openChecks f) ≡ fires r → openOf f ≡ Refused r
-  unfolding openOf
-  fires-open {r} e = judge-fires Refused (openChecks f) (Opens (sizesOf f)) r e
-
   -- a call that has checks of its own after these
   pub then-refused : {r : Refusal} (ds : List (Check Refusal)) → openOf f ≡ Refused r → fired (openChecks f ++ ds) ≡ fires r
   then-refused {r} ds e = fires-append (openChecks f) ds r (open-fires e)
@@ -343,26 +334,11 @@ module _ {f : List ℕ} {z : Sizes} where
 
 -- ---- up to U and up to capacity
 
--- no number between u and c is taken
-least-more : (p : ℕ → Bool) (u c : ℕ) → u ≤ c → ((s : ℕ) → u < s → s ≤ c → p s ≡ false) → least p u ≡ least p c
-least-more p u c h k = go (least p u) (view p u)
-  where
-    go : (x : ℕ) → View p u x → x ≡ least p c
-    go x (nothing v) =
-        sym (least-none (record { none = λ s a b. ⊎-elim (λ (l : u < s). k s l b) (λ (l : s ≤ u). v .none s a l) (lt-or-ge u s) }))
-    go x (lowest v) = sym (least-lowest (record { low = v .low; high = omega (arith, v .high); takes = v .takes; below = v .below }))
-
--- refusal 8, for an index whose entries above U are empty
-pub shared-all : (z : Sizes) (run : ℕ → Run) → z .u ≤ capacityOf z → None (aboveAt z run) (capacityOf z)
-    → least (sharedAt run) (z .u) ≡ least (sharedAt run) (capacityOf z)
-shared-all z run h n =
-    least-more (sharedAt run) (z .u) (capacityOf z) h (λ s a b. empty-apart run s (above-facts z run s (n .none s (omega arith) b) a))
-
 -- slot s has a scan
 pub record Holds (z : Sizes) (run : ℕ → Run) (s : ℕ) : Type 0 where
   pub low : 1 ≤ s
   pub high : s ≤ z .u
-  pub full : 0 < run s .first + run s .last
+  pub full : Full (run s)
 
 module _ (z : Sizes) (run : ℕ → Run) where
   pub slots-holds : (s : ℕ) → List·Memᴰ s (slotsOf z run) → Holds z run s
@@ -381,7 +357,7 @@ module _ {z : Sizes} {run : ℕ → Run} (L : Laid z run) where
   unfolding slotsOf
   slots-all h = those-more (λ s. not (empty (run s))) (z .u) (capacityOf z) h (λ s a b. ap not (facts-empty (run s) (L .above s a b)))
 
-  pub full-holds : (s : ℕ) → 1 ≤ s → s ≤ capacityOf z → 0 < run s .first + run s .last → Holds z run s
+  pub full-holds : (s : ℕ) → 1 ≤ s → s ≤ capacityOf z → Full (run s) → Holds z run s
   full-holds s a b f = ⊎-elim (λ (h : z .u < s). absurd (omega (arith, L .above s h b))) (λ (h : s ≤ z .u). record { low = a; high = h; full = f }) (lt-or-ge (z .u) s)
 
   pub inside-all : (s : ℕ) → 1 ≤ s → s ≤ capacityOf z → Lies z (run s)
@@ -406,6 +382,6 @@ module _ {f : List ℕ} {z : Sizes} (b : Booted f z) {r : Run} (h : Lies z r) wh
   -- past bootstrap and index
   pub lies-past : (i : ℕ) → startOf z (r .first) ≤ i → i < r .last * z .l → z .n * z .l ≤ i
   lies-past i lo hi =
-      ⊎-elim (λ (k : 0 < r .first + r .last). omega (arith, mul-le-mul-right {m = z .n} {n = r .first - 1} (z .l) (omega (arith, h .low k))))
+      ⊎-elim (λ (k : Full r). omega (arith, mul-le-mul-right {m = z .n} {n = r .first - 1} (z .l) (omega (arith, h .low k))))
       (λ (k : r .first + r .last ≤ 0). let e : r .last ≡ 0 = omega arith in absurd (omega (arith, ap (λ (x : ℕ). x * z .l) e)))
       (lt-or-ge 0 (r .first + r .last))

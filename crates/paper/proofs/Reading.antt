@@ -1,5 +1,5 @@
 -- A scan that a slot shows, padded, is read back.
-use Prim.Native.Nat.{ℕ, _+_, _-_, _*_, _≤_, _<_}
+use Prim.Native.Nat.{ℕ, _+_, _-_, _*_, _≤_}
 use mathlib.Core.Path.{_≡_, refl, sym, _∙_, ap, subst}
 use mathlib.Core.Bool.{true, false}
 use mathlib.Core.List.{List, [], _∷_, _++_}
@@ -15,7 +15,7 @@ use Rattle.paper.specs.declared.sizes.Sizes.{Sizes}
 use Rattle.paper.specs.declared.answer.Ruled.the-variants.{Keeps}
 use Rattle.paper.specs.declared.answer.Span.the-variants.{Part, Refused}
 use Rattle.paper.specs.Sizes.{sizesOf, startOf}
-use Rattle.paper.specs.Index.{runOf, shownOf, Sound}
+use Rattle.paper.specs.Index.{runOf, Full, shownOf, Sound}
 use Rattle.paper.specs.Scan.{ruledOf, partOf}
 use Rattle.paper.specs.Look.{noSlot, noScan, slotChecks, readIn, readOf}
 use Rattle.paper.proofs.Opening.{facts-full, then-opens, sound-open}
@@ -24,13 +24,13 @@ use Rattle.paper.proofs.Begins.{InIndex, facts-slot}
 
 module _ {f : List ℕ} {z : Sizes} (S : Sound f z) (slot : ℕ) (i : InIndex z slot) where
   -- a slot with a scan: neither 9 nor 10
-  pub slot-clear : 0 < runOf f z slot .first + runOf f z slot .last → fired (slotChecks f slot) ≡ clear
+  pub slot-clear : Full (runOf f z slot) → fired (slotChecks f slot) ≡ clear
   slot-clear full =
       then-opens f (noSlot (sizesOf f) slot ∷ noScan (runOf f (sizesOf f) slot) ∷ []) (sound-open S)
       ∙ subst (λ (y : Sizes). fired (noSlot y slot ∷ noScan (runOf f y slot) ∷ []) ≡ clear) (sym (S .booted .reads))
       (all-clear (noSlot z slot ∷ noScan (runOf f z slot) ∷ []) (facts-slot z slot i, (facts-full (runOf f z slot) full, tt)))
 
-  module _ (full : 0 < runOf f z slot .first + runOf f z slot .last) (n : ℕ) (scan : List ℕ) (shows : shownOf f z slot ≡ pad n scan)
+  module _ (full : Full (runOf f z slot)) (n : ℕ) (scan : List ℕ) (shows : shownOf f z slot ≡ pad n scan)
       {head rest : ℕ} (keeps : ruledOf scan true ≡ Keeps head rest) where
     abbrev from : ℕ
     from = startOf z (runOf f z slot .first)

@@ -9,9 +9,9 @@ use lib.ListN.{length, take, getD, List·getD-eq-default}
 use lib.Seq.{take-append-le, take-all}
 use Rattle.lent.proofs.Lists.{lt-or-ge}
 use Rattle.lent.proofs.Writes.{write-nothing}
-use Rattle.lent.specs.Part.{part, Same}
+use Rattle.lent.specs.Part.{part, Alike}
 use Rattle.lent.specs.Write.{write}
-use Rattle.lent.proofs.Parts.{part-same, same-after}
+use Rattle.lent.proofs.Parts.{part-same, alike-after}
 use Rattle.paper.specs.declared.sizes.Sizes.{Sizes}
 use Rattle.paper.specs.declared.sizes.Run.{Run}
 use Rattle.paper.specs.declared.job.Job.{Job}
@@ -139,7 +139,7 @@ module _ {z : Sizes} {f scan : List ℕ} {j : Job} (Y : Ready z f scan j) where
   pub end-is : take 32 (fileAt z f scan j (suc (suc (countOf z j)))) ≡ bootBytes (sizesAfter z j)
   end-is =
       part-same G H 0 32 (end-len ∙ sym boot-len)
-      (subst (λ (x : List ℕ). Same G x 0 32) (sym entry-file) (index-head boot-sound (j .slot) (Y .low) (Y .used) E (Y .entry) (Y .lies) alone))
+      (subst (λ (x : List ℕ). Alike G x 0 32) (sym entry-file) (index-head boot-sound (j .slot) (Y .low) (Y .used) E (Y .entry) (Y .lies) alone))
       ∙ boot-is
 
   -- the job's slot has the entry, and shows the padded scan
@@ -153,10 +153,10 @@ module _ {z : Sizes} {f scan : List ℕ} {j : Job} (Y : Ready z f scan j) where
   all-rows = rows K (omega arith) ∙ ap (performs f) (take-all K ds (omega (arith, length-rows z j scan)))
 
   -- record 1 lies before the data
-  data-same : Same (performs f ds) G (startOf z (statedBy E .first)) (statedBy E .last * z .l)
+  data-same : Alike (performs f ds) G (startOf z (statedBy E .first)) (statedBy E .last * z .l)
   data-same i lo hi =
       rw (← all-rows, boot-file)
-      (same-after (fileAt z f scan j K) 0 (bootBytes z′) (omega arith) 32 (suc i) (omega (arith, length-boot z′)) i
+      (alike-after (fileAt z f scan j K) 0 (bootBytes z′) (omega arith) 32 (suc i) (omega (arith, length-boot z′)) i
       (omega (arith, lies-past (boot-sound .booted) (Y .lies) i lo hi, head-long z (Y .sound .booted .ranged .shape))) (omega arith))
 
   pub end-shown : shownOf (fileAt z f scan j (suc (suc (countOf z j)))) z (j .slot) ≡ paddedOf z j scan

@@ -41,10 +41,6 @@ module _ (s : List ℕ) (saving : Bool) where
       first (rule1 (length s) saving) (rule2 (classesOf s)) (rule3 (startsOf s) (classesOf s)) (rule4 s (lastOf s)) (rule5 s) (rule6 s saving) (headlen s)
       (datalen s)
 
-  -- no reason, and the lengths
-  pub keeps-reason : {head rest : ℕ} → ruledOf s saving ≡ Keeps head rest → reasonOf (ruledOf s saving) ≡ 0
-  keeps-reason e = ap reasonOf e
-
   pub no-reason : reasonOf (ruledOf s saving) ≡ 0 → ruledOf s saving ≡ Keeps (headlen s) (datalen s)
   unfolding ruleOf
   no-reason h =

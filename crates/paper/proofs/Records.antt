@@ -1,19 +1,19 @@
 -- "Each step writes at most one record": the bytes of every write lie in the record that the write names.
 use Prim.Native.Nat.{ℕ, _+_, _-_, _*_, _/_, _%_, _≤_, _<_}
-use mathlib.Core.Path.{_≡_, refl, sym, _∙_, ap, subst}
+use mathlib.Core.Path.{_≡_, sym, _∙_, ap, subst}
 use mathlib.Core.Bool.{Bool, true, false, cond}
 use mathlib.Core.List.{List}
-use mathlib.Core.Logic.{_⊎_, ⊎-elim}
+use mathlib.Core.Logic.{⊎-elim}
 use native.Mathlib.Omega.{arith}
 use native.Mathlib.Nat.{mod-lt, mul-mod-left, dvd-of-mod-eq-zero, mod-mod-of-dvd, div-add-mod', lt-of-mul-lt-mul-right, add-mul, one-mul}
-use lib.ListN.{length, take, drop, getD, length-take}
+use lib.ListN.{length, drop, getD, length-take}
 use Rattle.lent.specs.Write.{zeros}
 use Rattle.lent.proofs.Lists.{lt-or-ge}
 use Rattle.lent.proofs.Writes.{length-zeros}
 use Rattle.paper.specs.declared.sizes.Sizes.{Sizes}
 use Rattle.paper.specs.declared.job.Job.{Job}
-use Rattle.paper.specs.Sizes.{capacityOf, recordOf, placeOf, startOf, homeOf, Shaped}
-use Rattle.paper.specs.Store.{Write, runFrom, countOf, paddedOf, bootWrite, entryAfter, entryWrite, writesOf, sizesAfter}
+use Rattle.paper.specs.Sizes.{placeOf, startOf, Shaped}
+use Rattle.paper.specs.Store.{Write, runFrom, countOf, paddedOf, entryAfter, entryWrite, writesOf, sizesAfter}
 use Rattle.paper.specs.Step.{noWrite}
 use Rattle.paper.proofs.Sizing.{times, home-is}
 use Rattle.paper.proofs.Encoding.{length-boot, length-entry}

@@ -1,32 +1,21 @@
 -- The laws of a scan's rules: what keeping them says in plain facts, both ways; which one is broken; and that they outlast a longer run.
 use Prim.Native.Nat.{ℕ, _+_, _-_, _*_, _%_, _≤_}
 use mathlib.Core.Path.{_≡_, refl, _∙_, ap}
-use mathlib.Core.Bool.{Bool, true, false, cond}
-use mathlib.Core.List.{List, [], _∷_, _++_}
+use mathlib.Core.Bool.{Bool, true, false}
+use mathlib.Core.List.{List, _++_}
 use native.Mathlib.Omega.{arith}
 use lib.Dec.{leb, eqb}
 use lib.IntN.{ℤ}
 use lib.ListN.{length, length-append, List·getD-append}
 use borrow.Author.Tests.{leb-true, le-leb, eqb-true, eq-eqb, not-false}
 use Rattle.lent.specs.Number.{big, be16, be64, int16}
-use Rattle.lent.specs.Part.{Same}
-use Rattle.lent.proofs.Lists.{true≢false, all-true, true-all, table-same}
+use Rattle.lent.specs.Part.{Alike}
+use Rattle.lent.proofs.Lists.{true≢false, asked, answered, all-true, true-all, table-same}
 use Rattle.lent.proofs.Checks.{clear-all, judge-passed}
 use Rattle.lent.proofs.Numbers.{number-same}
-use Rattle.lent.proofs.Parts.{same-self}
 use Rattle.whole.specs.Length.{lengthOf, sizeOf, isWhole}
 use Rattle.paper.specs.declared.answer.Ruled.the-variants.{Keeps, Breaks}
-use Rattle.paper.specs.Scan.{classesOf, startsOf, wordOf, headlen, datalen, rule1, rule2, rising, rule3, rule4, rule5, rule6, ruleChecks, ruledOf, Lengths}
-
--- ---- a test that counts only when saving
-
-when : (saving t : Bool) → cond saving t true ≡ true → saving ≡ true → t ≡ true
-when true t e h = e
-when false t e h = absurd (true≢false h refl)
-
-if-saving : (saving t : Bool) → (saving ≡ true → t ≡ true) → cond saving t true ≡ true
-if-saving true t h = h refl
-if-saving false t h = refl
+use Rattle.paper.specs.Scan.{classesOf, startsOf, wordOf, headlen, datalen, rule1Tests, rule1, rule2Tests, rule2, rising, rule3Tests, rule3, rule4Tests, rule4, rule5Tests, rule5, rule6, ruleChecks, ruledOf, Lengths}
 
 -- ---- each rule in plain facts, both ways
 
@@ -36,25 +25,25 @@ Rule1 size saving = (256 ≤ size) × (saving ≡ true → size ≤ 65536)
 pub rule1-facts : (size : ℕ) (saving : Bool) → rule1 size saving ≡ true → Rule1 size saving
 unfolding rule1
 rule1-facts size saving e =
-    let a = all-true (leb 256 size ∷ cond saving (leb size 65536) true ∷ []) e in
-    (leb-true _ _ (a .0), λ h. leb-true _ _ (when saving (leb size 65536) (a .1 .0) h))
+    let a = all-true (rule1Tests size saving) e in
+    (leb-true _ _ (a .0), λ h. leb-true _ _ (asked saving (leb size 65536) (a .1 .0) h))
 
 pub facts-rule1 : (size : ℕ) (saving : Bool) → Rule1 size saving → rule1 size saving ≡ true
 unfolding rule1
 facts-rule1 size saving f =
-    true-all (leb 256 size ∷ cond saving (leb size 65536) true ∷ [])
-    (le-leb _ _ (f .0), (if-saving saving (leb size 65536) (λ h. le-leb _ _ (f .1 h)), tt))
+    true-all (rule1Tests size saving)
+    (le-leb _ _ (f .0), (answered saving (leb size 65536) (λ h. le-leb _ _ (f .1 h)), tt))
 
 abbrev pub Rule2 : ℕ → Type 0
 Rule2 n = (13 ≤ n) × (n ≤ 15)
 
 pub rule2-facts : (n : ℕ) → rule2 n ≡ true → Rule2 n
 unfolding rule2
-rule2-facts n e = let a = all-true (leb 13 n ∷ leb n 15 ∷ []) e in (leb-true _ _ (a .0), leb-true _ _ (a .1 .0))
+rule2-facts n e = let a = all-true (rule2Tests n) e in (leb-true _ _ (a .0), leb-true _ _ (a .1 .0))
 
 pub facts-rule2 : (n : ℕ) → Rule2 n → rule2 n ≡ true
 unfolding rule2
-facts-rule2 n f = true-all (leb 13 n ∷ leb n 15 ∷ []) (le-leb _ _ (f .0), (le-leb _ _ (f .1), tt))
+facts-rule2 n f = true-all (rule2Tests n) (le-leb _ _ (f .0), (le-leb _ _ (f .1), tt))
 
 abbrev pub Rule3 : List ℤ → ℕ → Type 0
 Rule3 starts n = (wordOf starts 0 ≡ 5) × (21 ≤ wordOf starts 1) × (rising starts n ≡ true)
@@ -62,58 +51,52 @@ Rule3 starts n = (wordOf starts 0 ≡ 5) × (21 ≤ wordOf starts 1) × (rising 
 pub rule3-facts : (starts : List ℤ) (n : ℕ) → rule3 starts n ≡ true → Rule3 starts n
 unfolding rule3
 rule3-facts starts n e =
-    let a = all-true (eqb (wordOf starts 0) 5 ∷ leb 21 (wordOf starts 1) ∷ rising starts n ∷ []) e in
+    let a = all-true (rule3Tests starts n) e in
     (eqb-true _ _ (a .0), leb-true _ _ (a .1 .0), a .1 .1 .0)
 
 pub facts-rule3 : (starts : List ℤ) (n : ℕ) → Rule3 starts n → rule3 starts n ≡ true
 unfolding rule3
 facts-rule3 starts n f =
-    true-all (eqb (wordOf starts 0) 5 ∷ leb 21 (wordOf starts 1) ∷ rising starts n ∷ []) (eq-eqb _ _ (f .0), (le-leb _ _ (f .1), (f .2, tt)))
+    true-all (rule3Tests starts n) (eq-eqb _ _ (f .0), (le-leb _ _ (f .1), (f .2, tt)))
 
 abbrev pub Rule4 : List ℕ → ℕ → Type 0
 Rule4 s last =
     (isWhole (lengthOf (be64 s 32)) ≡ true) × (headlen s % 8 ≡ 0) × (8 * last ≤ headlen s) × (headlen s ≤ length s) × (headlen s ≤ 65536)
 
 module _ (s : List ℕ) (last : ℕ) where
-  abbrev tests4 : List Bool
-  tests4 = isWhole (lengthOf (be64 s 32)) ∷ eqb (headlen s % 8) 0 ∷ leb (8 * last) (headlen s) ∷ leb (headlen s) (length s) ∷ leb (headlen s) 65536 ∷ []
-
   pub rule4-facts : rule4 s last ≡ true → Rule4 s last
   unfolding rule4
   rule4-facts e =
-      let a = all-true tests4 e in
+      let a = all-true (rule4Tests s last) e in
       (a .0, eqb-true _ _ (a .1 .0), leb-true _ _ (a .1 .1 .0), leb-true _ _ (a .1 .1 .1 .0), leb-true _ _ (a .1 .1 .1 .1 .0))
 
   pub facts-rule4 : Rule4 s last → rule4 s last ≡ true
   unfolding rule4
-  facts-rule4 f = true-all tests4 (f .0, (eq-eqb _ _ (f .1), (le-leb _ _ (f .2), (le-leb _ _ (f .3), (le-leb _ _ (f .4), tt)))))
+  facts-rule4 f = true-all (rule4Tests s last) (f .0, (eq-eqb _ _ (f .1), (le-leb _ _ (f .2), (le-leb _ _ (f .3), (le-leb _ _ (f .4), tt)))))
 
 abbrev pub Rule5 : List ℕ → Type 0
 Rule5 s =
     (isWhole (lengthOf (be64 s 40)) ≡ true) × (datalen s % 4 ≡ 0) × (datalen s ≤ 65536) × (headlen s + datalen s ≤ length s)
 
 module _ (s : List ℕ) where
-  abbrev tests5 : List Bool
-  tests5 = isWhole (lengthOf (be64 s 40)) ∷ eqb (datalen s % 4) 0 ∷ leb (datalen s) 65536 ∷ leb (headlen s + datalen s) (length s) ∷ []
-
   pub rule5-facts : rule5 s ≡ true → Rule5 s
   unfolding rule5
-  rule5-facts e = let a = all-true tests5 e in (a .0, eqb-true _ _ (a .1 .0), leb-true _ _ (a .1 .1 .0), leb-true _ _ (a .1 .1 .1 .0))
+  rule5-facts e = let a = all-true (rule5Tests s) e in (a .0, eqb-true _ _ (a .1 .0), leb-true _ _ (a .1 .1 .0), leb-true _ _ (a .1 .1 .1 .0))
 
   pub facts-rule5 : Rule5 s → rule5 s ≡ true
   unfolding rule5
-  facts-rule5 f = true-all tests5 (f .0, (eq-eqb _ _ (f .1), (le-leb _ _ (f .2), (le-leb _ _ (f .3), tt))))
+  facts-rule5 f = true-all (rule5Tests s) (f .0, (eq-eqb _ _ (f .1), (le-leb _ _ (f .2), (le-leb _ _ (f .3), tt))))
 
   abbrev pub Rule6 : Bool → Type 0
   Rule6 saving = saving ≡ true → headlen s + datalen s ≡ length s
 
   pub rule6-facts : (saving : Bool) → rule6 s saving ≡ true → Rule6 saving
   unfolding rule6
-  rule6-facts saving e h = eqb-true _ _ (when saving (eqb (headlen s + datalen s) (length s)) e h)
+  rule6-facts saving e h = eqb-true _ _ (asked saving (eqb (headlen s + datalen s) (length s)) e h)
 
   pub facts-rule6 : (saving : Bool) → Rule6 saving → rule6 s saving ≡ true
   unfolding rule6
-  facts-rule6 saving f = if-saving saving (eqb (headlen s + datalen s) (length s)) (λ h. eq-eqb _ _ (f h))
+  facts-rule6 saving f = answered saving (eqb (headlen s + datalen s) (length s)) (λ h. eq-eqb _ _ (f h))
 
 -- ---- the rules in order
 
@@ -210,7 +193,7 @@ keeps-lengths {s} {saving} {head} {rest} e =
 
 -- ---- the same first 48 bytes
 
-module _ (s t : List ℕ) (same : Same s t 0 48) where
+module _ (s t : List ℕ) (same : Alike s t 0 48) where
   be16-same : (at : ℕ) → at ≤ 46 → be16 t at ≡ be16 s at
   be16-same at h = number-same big 2 s t 0 48 at same (omega arith) (omega arith)
 
@@ -255,7 +238,3 @@ rules-longer s more saving {head} {rest} e =
     let k = keeps-lengths e in
     let l = length-append s more in
     rules-same s (s ++ more) (λ i lo hi. List·getD-append s more 0 i (omega arith)) saving (omega arith) (omega arith) e
-
--- a scan that may be saved may be read
-pub rules-read : (s : List ℕ) (saving : Bool) {head rest : ℕ} → ruledOf s saving ≡ Keeps head rest → ruledOf s false ≡ Keeps head rest
-rules-read s saving e = let k = keeps-lengths e in rules-same s s (same-self s 0 48) saving (omega arith) (omega arith) e

@@ -1,6 +1,6 @@
 -- Where entries and records lie: sums and products of the sizes.
-use Prim.Native.Nat.{ℕ, _+_, _-_, _*_, _/_, _%_, _≤_, _<_}
-use mathlib.Core.Path.{_≡_, refl, sym, _∙_, ap, subst}
+use Prim.Native.Nat.{ℕ, _+_, _-_, _*_, _/_, _≤_, _<_}
+use mathlib.Core.Path.{_≡_, subst}
 use mathlib.Core.List.{List}
 use native.Mathlib.Omega.{arith}
 use native.Mathlib.Nat.{mul-le-mul, mul-le-mul-right, div-add-mod', div-mul-le-self, add-mul, one-mul}
@@ -56,9 +56,6 @@ module _ (z : Sizes) (R : Shaped z) where
 
   pub home-next : (s t : ℕ) → 1 ≤ s → s < t → homeOf z s + z .m ≤ homeOf z t
   home-next s t h₁ h₂ = omega (arith, less s (z .m) h₁, times s (t - 1) (z .m) (omega arith))
-
-  pub start-next : (r q : ℕ) → 1 ≤ r → r < q → startOf z r + z .l ≤ startOf z q
-  start-next r q h₁ h₂ = omega (arith, less r (z .l) h₁, times r (q - 1) (z .l) (omega arith))
 
   -- record 1 comes before the index
   pub head-long : 1024 ≤ z .n * z .l

@@ -9,7 +9,7 @@ use borrow.Author.Tests.{le-leb, lt-leb}
 use lib.Dec.{leb}
 use lib.ListN.{getD}
 use Rattle.lent.proofs.Lists.{lt-or-ge}
-use Rattle.lent.proofs.Parts.{part-same, same-within}
+use Rattle.lent.proofs.Parts.{part-same, alike-within}
 use Rattle.paper.specs.declared.sizes.Sizes.{Sizes}
 use Rattle.paper.specs.declared.job.Job.{Job}
 use Rattle.paper.specs.declared.job.Step.the-variants.{Wrote, Saved, Cleared}
@@ -17,17 +17,12 @@ use Rattle.paper.specs.Sizes.{bootBytes}
 use Rattle.paper.specs.Index.{entryAt}
 use Rattle.paper.specs.Entry.{entryBytes}
 use Rattle.paper.specs.Store.{Write, perform, countOf, sizesAfter, entryAfter, entryWrite, writesOf}
-use Rattle.paper.specs.Step.{agrees, noWrite, writeAt, stepFile, stepJob, stands, confirmOf, stepAnswer}
+use Rattle.paper.specs.Step.{agrees, noWrite, writeAt, stepFile, placed, stepJob, stands, confirmOf, stepAnswer}
 use Rattle.paper.proofs.Sizing.{head-long}
 use Rattle.paper.proofs.Opening.{sound-open}
 use Rattle.paper.proofs.Writes.{writes-entry, writes-past}
 use Rattle.paper.proofs.Agreement.{Agreeing, agreeing, step-file, job-other, job-boot, job-past, answer-wrote, answer-past, standing}
 use Rattle.paper.proofs.Ready.{Ready, fileAt, file-next, rows-frame, rows-sound, late-sound, late-len, late-is, end-stays, end-entry, end-rows}
-
--- the job at another place of its list, expecting these 32 bytes
-abbrev pub placed : Job → ℕ → List ℕ → Job
-placed j w b =
-    record { saves = j .saves; slot = j .slot; size = j .size; span = j .span; first = j .first; written = w; boot = b; about = j .about }
 
 -- the job after i steps: its place in the list, and the bootstrap that it was begun on or wrote
 abbrev pub jobAt : Sizes → Job → ℕ → Job
@@ -75,7 +70,7 @@ module _ {z : Sizes} {f scan : List ℕ} {j : Job} (Y : Ready z f scan j) (A : A
         size = A .size;
         span = r .len ∙ A .span;
         begun =
-            part-same f (F i) 0 32 (r .len) (same-within f (F i) (omega arith) (omega (arith, head-long z (A .booted .ranged .shape))) (r .head))
+            part-same f (F i) 0 32 (r .len) (alike-within f (F i) (omega arith) (omega (arith, head-long z (A .booted .ranged .shape))) (r .head))
             ∙ A .begun;
         filled = A .filled;
         low = A .low;

@@ -16,7 +16,7 @@ use Rattle.paper.specs.declared.refusal.Refusal.{Refusal}
 use Rattle.paper.specs.declared.refusal.Refusal.the-variants.{BadEntry, AboveUse, SharedRecord}
 use Rattle.paper.specs.declared.answer.Opened.{Opened}
 use Rattle.paper.specs.declared.answer.Opened.the-variants.{Opens, Refused}
-use Rattle.paper.specs.Sizes.{sizesOf, versionOf, capacityOf, homeOf, startOf, roomOf, bytesOf, bootChecks, Ranged}
+use Rattle.paper.specs.Sizes.{sizesOf, versionOf, capacityOf, homeOf, startOf, bytesOf, bootChecks, Ranged}
 
 -- bytes 0-3 and 4-7 of slot s's entry: "first record, last record"
 abbrev pub runOf : List ℕ → Sizes → ℕ → Run
@@ -28,6 +28,10 @@ runOf f z s = record { first = be32 f (homeOf z s); last = be32 f (homeOf z s + 
 unfoldable pub empty : Run → Bool
 empty r = eqb (r .first + r .last) 0
 
+-- an entry that is not
+abbrev pub Full : Run → Type 0
+Full r = 0 < r .first + r .last
+
 -- "Otherwise N+1 <= first <= last <= N+D"
 abbrev pub dataTests : Sizes → Run → List Bool
 dataTests z r = ltb (z .n) (r .first) ∷ leb (r .first) (r .last) ∷ leb (r .last) (z .n + z .d) ∷ []
@@ -36,12 +40,18 @@ unfoldable pub inData : Sizes → Run → Bool
 inData z r = all (dataTests z r)
 
 -- "neither empty nor in range"
+abbrev pub badTests : Sizes → Run → List Bool
+badTests z r = not (empty r) ∷ not (inData z r) ∷ []
+
 unfoldable pub badAt : Sizes → (ℕ → Run) → ℕ → Bool
-badAt z run s = all (not (empty (run s)) ∷ not (inData z (run s)) ∷ [])
+badAt z run s = all (badTests z (run s))
 
 -- "Entries above U are empty"
+abbrev pub aboveTests : Sizes → (ℕ → Run) → ℕ → List Bool
+aboveTests z run s = ltb (z .u) s ∷ not (empty (run s)) ∷ []
+
 unfoldable pub aboveAt : Sizes → (ℕ → Run) → ℕ → Bool
-aboveAt z run s = all (ltb (z .u) s ∷ not (empty (run s)) ∷ [])
+aboveAt z run s = all (aboveTests z run s)
 
 -- "No two scans share a record": of two runs that are empty or in range, a record, counted from 1, is in both
 abbrev pub shareTests : Run → Run → List Bool
@@ -100,8 +110,8 @@ entryAt f z s = part (homeOf z s) (homeOf z s + z .m) f
 
 -- an entry that is empty or in range
 pub record Lies (z : Sizes) (r : Run) : Type 0 where
-  pub low : 0 < r .first + r .last → z .n < r .first
-  pub order : 0 < r .first + r .last → r .first ≤ r .last
+  pub low : Full r → z .n < r .first
+  pub order : Full r → r .first ≤ r .last
   pub high : r .last ≤ z .n + z .d
 
 -- what `indexOf z run ≡ Opens z` says

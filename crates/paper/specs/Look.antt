@@ -1,29 +1,27 @@
 -- 01, "What the tablet does with a file": list, entry, show and read, each with the refusals of open before its own.
-use Prim.Native.Nat.{ℕ, _+_, _-_, _*_}
-use mathlib.Core.Bool.{Bool, false, not, cond}
+use Prim.Native.Nat.{ℕ, _+_, _*_}
+use mathlib.Core.Bool.{Bool, false, not}
 use mathlib.Core.List.{List, [], _∷_, _++_}
 use lib.Dec.{ltb, leb}
 use lib.ListN.{length}
 use Rattle.lent.specs.Lists.{all}
-use Rattle.lent.specs.Checks.{Check, Fired, clear, fires, check, fired, judge}
+use Rattle.lent.specs.Checks.{Check, check, judge}
 use Rattle.lent.specs.Write.{write}
 use Rattle.paper.specs.declared.sizes.Sizes.{Sizes}
 use Rattle.paper.specs.declared.sizes.Run.{Run}
 use Rattle.paper.specs.declared.refusal.Refusal.{Refusal}
-use Rattle.paper.specs.declared.refusal.Refusal.the-variants.{NoSuchSlot, EmptySlot, BadScan, TooSmall}
+use Rattle.paper.specs.declared.refusal.Refusal.the-variants.{NoSuchSlot, EmptySlot, TooSmall}
 use Rattle.paper.specs.declared.answer.Listed.{Listed}
 use Rattle.paper.specs.declared.answer.Listed.the-variants as listed
 use Rattle.paper.specs.declared.answer.Span.{Span}
 use Rattle.paper.specs.declared.answer.Span.the-variants.{Part, Refused}
 use Rattle.paper.specs.declared.answer.Ruled.{Ruled}
-use Rattle.paper.specs.declared.answer.Ruled.the-variants.{Keeps, Breaks}
-use Rattle.paper.specs.declared.answer.Taken.{Taken}
 use Rattle.paper.specs.declared.answer.Taken.the-variants as taken
 use Rattle.paper.specs.declared.entry.Found.{Found}
 use Rattle.paper.specs.Sizes.{sizesOf, capacityOf, homeOf, startOf}
 use Rattle.paper.specs.Index.{runOf, empty, slotsOf, shownOf, openChecks}
 use Rattle.paper.specs.Entry.{fieldsOf, noEntry}
-use Rattle.paper.specs.Scan.{ruledOf}
+use Rattle.paper.specs.Scan.{ruledOf, ofRuled}
 
 -- "it writes slot, first and last as three 32-bit numbers per scan in slot order"
 unfoldable pub linesOf : (ℕ → Run) → List ℕ → List ℕ
@@ -47,8 +45,11 @@ unfoldable pub listedOut : List ℕ → List ℕ → List ℕ
 listedOut f out = judge (λ r. out) (listChecks f out) (write out 0 (linesOf (runOf f (sizesOf f)) (listOf f)))
 
 -- "slot outside 1 to capacity"
+abbrev pub slotTests : Sizes → ℕ → List Bool
+slotTests z s = leb 1 s ∷ leb s (capacityOf z) ∷ []
+
 abbrev pub noSlot : Sizes → ℕ → Check Refusal
-noSlot z s = check (not (all (leb 1 s ∷ leb s (capacityOf z) ∷ []))) NoSuchSlot
+noSlot z s = check (not (all (slotTests z s))) NoSuchSlot
 
 -- "slot empty (entry, show, read, clear)"
 abbrev pub noScan : Run → Check Refusal
@@ -73,8 +74,7 @@ showOf f s = judge Refused (slotChecks f s) (recordsSpan (sizesOf f) (runOf f (s
 
 -- "A read answers the first HEADLEN + DATALEN bytes of the entry's records"
 abbrev pub readIn : ℕ → Ruled → Span
-readIn from (Keeps head rest) = Part from (from + (head + rest))
-readIn from (Breaks reason) = Refused (BadScan reason)
+readIn from ruled = ofRuled (λ head rest. Part from (from + (head + rest))) ruled
 
 unfoldable pub readOf : List ℕ → ℕ → Span
 readOf f s =

@@ -39,40 +39,53 @@ abbrev pub datalen : List ℕ → ℕ
 datalen s = sizeOf (lengthOf (be64 s 40))
 
 -- 1. "S is at least 256, and at most 65,536 when saving"
+abbrev pub rule1Tests : ℕ → Bool → List Bool
+rule1Tests size saving = leb 256 size ∷ cond saving (leb size 65536) true ∷ []
+
 unfoldable pub rule1 : ℕ → Bool → Bool
-rule1 size saving = all (leb 256 size ∷ cond saving (leb size 65536) true ∷ [])
+rule1 size saving = all (rule1Tests size saving)
 
 -- 2. "13 to 15 classes"
+abbrev pub rule2Tests : ℕ → List Bool
+rule2Tests n = leb 13 n ∷ leb n 15 ∷ []
+
 unfoldable pub rule2 : ℕ → Bool
-rule2 n = all (leb 13 n ∷ leb n 15 ∷ [])
+rule2 n = all (rule2Tests n)
 
 -- 3. "Start 1 is 5, start 2 is at least 21, each start is greater than the one before"
 unfoldable pub rising : List ℤ → ℕ → Bool
 rising starts n = every (n - 1) (λ k. ltZ (getD starts k (pos 0)) (getD starts (k + 1) (pos 0)))
 
+abbrev pub rule3Tests : List ℤ → ℕ → List Bool
+rule3Tests starts n = eqb (wordOf starts 0) 5 ∷ leb 21 (wordOf starts 1) ∷ rising starts n ∷ []
+
 unfoldable pub rule3 : List ℤ → ℕ → Bool
-rule3 starts n = all (eqb (wordOf starts 0) 5 ∷ leb 21 (wordOf starts 1) ∷ rising starts n ∷ [])
+rule3 starts n = all (rule3Tests starts n)
 
 -- 4. "HEADLEN is a whole number, a multiple of 8, at least 8 times the last class's start, at most S and at most 65,536"
-unfoldable pub rule4 : List ℕ → ℕ → Bool
-rule4 s last =
-    all
-    (isWhole (lengthOf (be64 s 32))
+abbrev pub rule4Tests : List ℕ → ℕ → List Bool
+rule4Tests s last =
+    isWhole (lengthOf (be64 s 32))
     ∷ eqb (headlen s % 8) 0
     ∷ leb (8 * last) (headlen s)
     ∷ leb (headlen s) (length s)
     ∷ leb (headlen s) 65536
-    ∷ [])
+    ∷ []
+
+unfoldable pub rule4 : List ℕ → ℕ → Bool
+rule4 s last = all (rule4Tests s last)
 
 -- 5. "DATALEN is a whole number, a multiple of 4, at most 65,536, and HEADLEN + DATALEN is at most S"
-unfoldable pub rule5 : List ℕ → Bool
-rule5 s =
-    all
-    (isWhole (lengthOf (be64 s 40))
+abbrev pub rule5Tests : List ℕ → List Bool
+rule5Tests s =
+    isWhole (lengthOf (be64 s 40))
     ∷ eqb (datalen s % 4) 0
     ∷ leb (datalen s) 65536
     ∷ leb (headlen s + datalen s) (length s)
-    ∷ [])
+    ∷ []
+
+unfoldable pub rule5 : List ℕ → Bool
+rule5 s = all (rule5Tests s)
 
 -- 6. "When saving, HEADLEN + DATALEN equals S"
 unfoldable pub rule6 : List ℕ → Bool → Bool

@@ -1,6 +1,6 @@
 -- 01, "A save, record by record": one step of a job, for any file, scan and job: the file, the job and the answer after it.
-use Prim.Native.Nat.{ℕ, _+_, _-_, _*_}
-use mathlib.Core.Bool.{Bool, true, false, not, cond}
+use Prim.Native.Nat.{ℕ, _+_, _*_}
+use mathlib.Core.Bool.{Bool, true, false, cond}
 use mathlib.Core.List.{List, [], _∷_}
 use lib.Dec.{ltb, leb, eqb}
 use lib.ListN.{length, take, getD}
@@ -17,7 +17,7 @@ use Rattle.paper.specs.declared.job.Job.{Job}
 use Rattle.paper.specs.declared.job.Step.{Step}
 use Rattle.paper.specs.declared.job.Step.the-variants.{Wrote, Saved, Cleared, Refused}
 use Rattle.paper.specs.declared.job.Stepped.{Stepped}
-use Rattle.paper.specs.Sizes.{sizesOf, bootBytes, capacityOf, startOf, homeOf, roomOf, bootChecks}
+use Rattle.paper.specs.Sizes.{sizesOf, bootBytes, capacityOf, startOf, roomOf, bootChecks}
 use Rattle.paper.specs.Index.{openOf, entryAt}
 use Rattle.paper.specs.Store.{Write, perform, countOf, paddedOf, sizesAfter, entryAfter, writesOf}
 
@@ -60,34 +60,38 @@ hasLeft z scan j = ltb (j .written) (length (writesOf z j scan))
 unfoldable pub stepFile : List ℕ → List ℕ → Job → List ℕ
 stepFile f scan j = cond (agrees f scan j) (perform f (writeAt (sizesOf f) scan j)) f
 
+-- the job at another place of its list, expecting these 32 bytes
+abbrev pub placed : Job → ℕ → List ℕ → Job
+placed j w b =
+    record { saves = j .saves; slot = j .slot; size = j .size; span = j .span; first = j .first; written = w; boot = b; about = j .about }
+
 -- the job one write on; where this write was record 1's, it then expects the bootstrap that it wrote
-abbrev pub moved : Sizes → List ℕ → Job → Job
-moved z scan j =
-    record {
-      saves = j .saves;
-      slot = j .slot;
-      size = j .size;
-      span = j .span;
-      first = j .first;
-      written = j .written + 1;
-      boot = cond (eqb (j .written) (countOf z j)) (bootBytes (sizesAfter z j)) (j .boot);
-      about = j .about;
-    }
+abbrev pub moved : Sizes → Job → Job
+moved z j = placed j (j .written + 1) (cond (eqb (j .written) (countOf z j)) (bootBytes (sizesAfter z j)) (j .boot))
 
 unfoldable pub stepJob : List ℕ → List ℕ → Job → Job
-stepJob f scan j = cond (agrees f scan j) (cond (hasLeft (sizesOf f) scan j) (moved (sizesOf f) scan j) j) j
+stepJob f scan j = cond (agrees f scan j) (cond (hasLeft (sizesOf f) scan j) (moved (sizesOf f) j) j) j
 
 -- "compares the entry's M bytes and the k records, padding included, with what the job and the scan give"
-unfoldable pub stands : List ℕ → List ℕ → Job → Sizes → Bool
-stands f scan j z =
-    all
-    (same (entryAt f z (j .slot)) (entryAfter z j)
+abbrev pub standTests : List ℕ → List ℕ → Job → Sizes → List Bool
+standTests f scan j z =
+    same (entryAt f z (j .slot)) (entryAfter z j)
     ∷ same (part (startOf z (j .first)) (startOf z (j .first) + countOf z j * z .l) f) (paddedOf z j scan)
-    ∷ [])
+    ∷ []
+
+unfoldable pub stands : List ℕ → List ℕ → Job → Sizes → Bool
+stands f scan j z = all (standTests f scan j z)
 
 -- "and answers Saved": record 0 and the count
 abbrev pub confirmed : Job → Step
 confirmed j = cond (j .saves) (Saved 0 (j .written)) (Cleared 0 (j .written))
+
+-- neither a write nor a refusal
+abbrev pub isConfirmed : Step → Bool
+isConfirmed (Wrote r count) = false
+isConfirmed (Saved r count) = true
+isConfirmed (Cleared r count) = true
+isConfirmed (Refused r) = false
 
 -- "The confirming step then gives 1 to 8, then 15"
 abbrev pub confirmOf : List ℕ → List ℕ → Job → Opened → Step

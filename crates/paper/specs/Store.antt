@@ -22,7 +22,7 @@ use Rattle.paper.specs.Sizes.{sizesOf, bootBytes, renewed, capacityOf, r
 use Rattle.paper.specs.Index.{runOf, empty, sharer, openChecks}
 use Rattle.paper.specs.Entry.{entryBytes}
 use Rattle.paper.specs.Scan.{ruledOf}
-use Rattle.paper.specs.Look.{noSlot, noScan, slotChecks}
+use Rattle.paper.specs.Look.{noSlot, slotChecks}
 
 -- ---- blank
 
@@ -31,8 +31,11 @@ abbrev pub blankSizes : ℕ → ℕ → ℕ → Sizes
 blankSizes n l m = record { n = n; d = 0; l = l; m = m; u = 0; counter = 0; kind = 0 }
 
 -- 16: "N, L or M outside the ranges, capacity above 4,096, or N x L exceeds the lent length"
+abbrev pub blankTests : ℕ → Sizes → List Bool
+blankTests len z = shaped z ∷ leb (z .n * z .l) len ∷ []
+
 abbrev pub blankChecks : List ℕ → Sizes → List (Check Refusal)
-blankChecks f z = check (not (all (shaped z ∷ leb (z .n * z .l) (length f) ∷ []))) BadBlank ∷ []
+blankChecks f z = check (not (all (blankTests (length f) z))) BadBlank ∷ []
 
 unfoldable pub blankOf : List ℕ → ℕ → ℕ → ℕ → Taken
 blankOf f n l m = judge Refused (blankChecks f (blankSizes n l m)) Accepted
@@ -80,18 +83,13 @@ accepted j = record { answer = Accepted; job = j }
 abbrev pub placeFor : List ℕ → ℕ → ℕ
 placeFor f size = freePlace (sizesOf f) (length f) (runOf f (sizesOf f)) (recordsFor (sizesOf f) size)
 
+-- a save's job, at the place r
+abbrev pub savesAt : List ℕ → ℕ → List ℕ → List ℕ → ℕ → Job
+savesAt f slot scan about r =
+    record { saves = true; slot = slot; size = length scan; span = length f; first = r; written = 0; boot = take 32 f; about = about }
+
 abbrev pub saveJob : List ℕ → ℕ → List ℕ → List ℕ → Job
-saveJob f slot scan about =
-    record {
-      saves = true;
-      slot = slot;
-      size = length scan;
-      span = length f;
-      first = placeFor f (length scan);
-      written = 0;
-      boot = take 32 f;
-      about = about;
-    }
+saveJob f slot scan about = savesAt f slot scan about (placeFor f (length scan))
 
 -- "is lent an empty scan"
 abbrev pub clearJob : List ℕ → ℕ → Job

@@ -1,6 +1,5 @@
 //! The sizes of a file, as its bootstrap states them, and the run of records that an index entry names.
 ghost use mathlib.Core.Path.{_≡_};
-ghost use Prim.Native.Nat.{_≤_};
 ghost use Rattle.paper.specs.Sizes.{capacityOf, recordOf, placeOf, homeOf, roomOf, Shaped, Slotted};
 
 // The bootstrap's words 1 to 7.

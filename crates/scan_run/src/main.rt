@@ -1,6 +1,6 @@
 // Expands each line of the input into a run of bytes, and writes what is said of it: the rules when reading and when saving, where the
 // classes 1, 13, 15, 16 and 0 and the data lie, and the sums of the bytes of class 1 and of the data.
-ghost use Prim.Native.Nat.{_<_, _≤_};
+ghost use Prim.Native.Nat.{_<_};
 use paper::answer::Ruled;
 use paper::answer::Span;
 use paper::refusal::Refusal;

@@ -9,8 +9,3 @@ use Rattle.whole.specs.Length.{lengthOf}
 pub doubles : (lengthOf 4643211215818981376 ≡ Is 256) × (lengthOf 9223372036854775808 ≡ Not)
 unfolding lengthOf wholeOf wholeFloat exactly ofBits
 doubles = (refl, refl)
-
--- 4340000000000000 (hex) is 2 ^ 53, a whole number like any other
-pub two-to-53 : lengthOf 4845873199050653696 ≡ Is 9007199254740992
-unfolding lengthOf wholeOf wholeFloat exactly ofBits
-two-to-53 = refl

@@ -1,4 +1,4 @@
-// A length as read, from the 64 bits of a double, by integer operations alone.
+//! A length as read, from the 64 bits of a double, by integer operations alone.
 ghost use mathlib.Core.Path.{_≡_};
 ghost use Rattle.whole.specs.Length.{lengthOf};
 ghost use Rattle.whole.specs.Number.{upTo, wholeOf};

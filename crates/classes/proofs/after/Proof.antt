@@ -16,7 +16,7 @@ use prog.Wp.{Heap, Calls, Loops, WpFn, Tables}
 use ghost.Atoms.{Atoms, sem}
 use contract.Monad.{Fun, fact}
 use contract.Running.{givenOf, tables, tablesOf}
-use types.Kit.{rewrite, Given, ‵, raw, _⊛_, ⋆, some, later, _$_, _∵_, !, qed, by, move, drop, use1, use2, split, join, pick, fjoin, suffices, frame, await, done}
+use types.Kit.{rewrite, Given, ‵, raw, _⊛_, ⋆, some, later, _$_, _∵_, !, qed, by, move, drop, use1, split, join, pick, fjoin, suffices, frame, await, done}
 use types.Part.{whole, sub, look-in, agg}
 use types.Run.{look, init, forget, stop, fld, from, load, of-opd, and-then, no-more, assigns, land, returns, enter, alloc1, alloc0, params1, pass1, pass0, free1, free0}
 use sound.WpLaws.{FmC, fmOf, WpFn-mono}
@@ -35,18 +35,18 @@ use denote.Triple.Call.{calls-at}
 use denote.Triple.Entry.{onEntry}
 use denote.Triple.Spec.{Meets, tripleOf}
 use denote.Triple.Table.{entered, cited}
-use denote.Triple.Walked.{says, Stays, stay-none, walkOf, goes-none, Walks, ends-at, walked, walk-meets}
+use denote.Triple.Walked.{says, Stays, stay-none, walkOf, goes-none, ends-at, walked, walk-meets}
 use denote.Exit.{yes}
 use denote.Triple.Clauses.{ensured, lasts}
 use Rattle.classes.specs.Walk.{nextOf}
 use Rattle.classes.specs.declared.Reader.{Reader}
-use Rattle.classes.proofs.Apart.{B, mach, Own, D, L, vd, passed, apart}
+use Rattle.classes.proofs.Apart.{B, mach, Own, D, L, vd, passed, handed}
 use Rattle.classes.proofs.Reader as T
 use Rattle.classes.proofs.Reader.Laws as T′
-use Rattle.classes.proofs.following as step
-use Rattle.classes.proofs.following.Symbol as step-def
+use Rattle.classes.proofs.following as callee
+use Rattle.classes.proofs.following.Symbol as callee-def
 use Rattle.classes.proofs.following.Symbol.{name as #classes·following}
-use Rattle.classes.proofs.following.Met as step-thm
+use Rattle.classes.proofs.following.Met as callee-thm
 use Rattle.classes.proofs.after.Key.{name as #classes·after}
 use Rattle.classes.proofs.after as after
 use Rattle.classes.proofs.after.Statement as stated
@@ -57,8 +57,8 @@ stayed = (stay-none B yes, tt)
 
 module _ {M : Type 1} (𝓤 : URA M) (H : Heap 𝓤) (A : Atoms 𝓤) (mem : Memory → SProp 𝓤) (run : Routine → Fun 𝓤) where
   -- the contract that the proof cites
-  abbrev StepAt : Contract 𝓤
-  StepAt = tripleOf 𝓤 H A step.signature (step.spec 𝓤 H A mem run)
+  abbrev Callee : Contract 𝓤
+  Callee = tripleOf 𝓤 H A callee.signature (callee.spec 𝓤 H A mem run)
 
 module _ {M : Type 1} (𝓤 : URA M) (H : Heap 𝓤) (A : Atoms 𝓤) (W : Given 𝓤 H A) (mem : Memory → SProp 𝓤) (run : Routine → Fun 𝓤) (κ : Lft) (q : Share) (d : Reader) where
   abbrev found : ℕ
@@ -67,22 +67,19 @@ module _ {M : Type 1} (𝓤 : URA M) (H : Heap 𝓤) (A : Atoms 𝓤) (W : Given
   abbrev Post : Val → SProp 𝓤
   Post = walkOf 𝓤 H A after.ended stayed (after.clauses 𝓤 H A mem run) .post (((κ, tt), (q, tt), tt, (d, tt), (mach κ d ∷ [], tt)), tt)
 
-  abbrev to : StepAt 𝓤 H A mem run .Ghost
+  abbrev to : Callee 𝓤 H A mem run .Ghost
   to = (((κ, tt), (q, tt), tt, (d .scan, (d .number, tt)), (passed κ d)), tt)
 
-  asked : ent 𝓤 (onEntry 𝓤 H A step.signature (κ, tt) (q, tt) (d .scan, (d .number, tt)) (passed κ d)) (StepAt 𝓤 H A mem run .pre to)
+  asked : ent 𝓤 (onEntry 𝓤 H A callee.signature (κ, tt) (q, tt) (d .scan, (d .number, tt)) (passed κ d)) (Callee 𝓤 H A mem run .pre to)
   asked = qed W ((‵ (flft κ q) ⊛ ‵ ftrue) ∷ ‵ (owns (ShrSlice (named 0) κ u8 ∷ usize ∷ []) (d .scan, (d .number, tt)) (passed κ d)) ∷ []) ∵ join ! $ frame ! $ done !
 
   -- what the struct owns gives what the callee asks, and is kept
-  goes : d .number < 2 ^ 64 → ent 𝓤 (onEntry 𝓤 H A after.signature (κ, tt) (q, tt) (d, tt) (mach κ d ∷ [], tt)) (sep 𝓤 (StepAt 𝓤 H A mem run .pre to) (sem 𝓤 H A (Own κ d)))
-  goes fits =
-      via 𝓤 _ (apart 𝓤 H A W κ q d fits)
-      (qed W ((‵ (flft κ q) ⊛ ‵ ftrue) ∷ ‵ (owns (ShrSlice (named 0) κ u8 ∷ usize ∷ []) (d .scan, (d .number, tt)) (passed κ d)) ∷ ‵ (Own κ d) ∷ []) ∵
-      use2 W (raw (StepAt 𝓤 H A mem run .pre to)) asked $ frame ! $ done !)
+  goes : d .number < 2 ^ 64 → ent 𝓤 (onEntry 𝓤 H A after.signature (κ, tt) (q, tt) (d, tt) (mach κ d ∷ [], tt)) (sep 𝓤 (Callee 𝓤 H A mem run .pre to) (sem 𝓤 H A (Own κ d)))
+  goes fits = handed 𝓤 H A W κ q d fits (Callee 𝓤 H A mem run .pre to) asked
 
   -- of the callee's `ensured`, the clause alone: it has no `&mut`, so what is said of last values is dropped
-  said : (r : ℕ) → ent 𝓤 (ensured 𝓤 H A step.ended (step.clauses 𝓤 H A mem run) (κ, tt) (d .scan, (d .number, tt)) tt r) (fact 𝓤 (r ≡ found))
-  said r = exE 𝓤 _ (λ ws. snd∗ 𝓤 (sem 𝓤 H A (lasts step.ended (κ, tt) (d .scan, (d .number, tt)) ws)) (fact 𝓤 (r ≡ found)))
+  said : (r : ℕ) → ent 𝓤 (ensured 𝓤 H A callee.ended (callee.clauses 𝓤 H A mem run) (κ, tt) (d .scan, (d .number, tt)) tt r) (fact 𝓤 (r ≡ found))
+  said r = exE 𝓤 _ (λ ws. snd∗ 𝓤 (sem 𝓤 H A (lasts callee.ended (κ, tt) (d .scan, (d .number, tt)) ws)) (fact 𝓤 (r ≡ found)))
 
   abbrev d′ : ℕ → Reader
   d′ m = record { scan = d .scan; number = m }
@@ -95,16 +92,16 @@ module _ {M : Type 1} (𝓤 : URA M) (H : Heap 𝓤) (A : Atoms 𝓤) (W : Given
       -- [what the struct owns]: the number's facts take the place of the old one's
       owned ! usize (Is usize) (uint-makes 𝓤 H A W w64) m _ (refl, ok) $ move ! (1 ∷ 0 ∷ []) $ by ! (own-put 𝓤 H A W (D κ d) (L κ d) 1 (vd κ d) m (mach κ d))
 
-  module _ (C : Calls 𝓤 H) (Λ : Loops 𝓤 H) (fm : FmC 𝓤 H (W .laws) C) (known : Triple 𝓤 (C #classes·following) (StepAt 𝓤 H A mem run)) where
+  module _ (C : Calls 𝓤 H) (Λ : Loops 𝓤 H) (fm : FmC 𝓤 H (W .laws) C) (known : Triple 𝓤 (C #classes·following) (Callee 𝓤 H A mem run)) where
     walk : Holds (hasTy (T′.mir (named 0)) (mach κ d)) × WT (mach κ d) → ent 𝓤 (onEntry 𝓤 H A after.signature (κ, tt) (q, tt) (d, tt) (mach κ d ∷ [], tt)) (WpFn 𝓤 H C Λ code.function (mach κ d ∷ []) Post)
     walk wt =
         qed W (raw (onEntry 𝓤 H A after.signature (κ, tt) (q, tt) (d, tt) (mach κ d ∷ [], tt)) ∷ []) ∵ enter ! C Λ code.function (mach κ d ∷ []) _ $
         alloc1 ! (λ l₀. alloc1 ! (λ l₁. alloc1 ! (λ l₂. alloc1 ! (λ l₃. alloc1 ! (λ l₄. alloc1 ! (λ l₅. alloc0 ! $ params1 ! $ pass1 ! (init ! 8 refl wt) $ pass0 ! $
         assigns ! (of-opd ! (load ! (from ! (fld ! refl (stop !))) (look-in ! 8 (sub ! 0 refl (whole !))))) (from ! (stop !)) (init ! 4 refl (tt, wt .1 .0)) $
         assigns ! (of-opd ! (load ! (from ! (fld ! refl (stop !))) (look-in ! 8 (sub ! 1 refl (whole !))))) (from ! (stop !)) (init ! 2 refl (tt, wt .1 .1 .0)) $
-        move ! (12 ∷ []) $ use1 W (raw (StepAt 𝓤 H A mem run .pre to) ⊛ ‵ (Own κ d)) (goes (wt .1 .1 .0 .fits)) $ split ! $
-        calls-at ! fm (StepAt 𝓤 H A mem run) known to (and-then ! (load ! (from ! (stop !)) (look ! 6 refl)) (and-then ! (load ! (from ! (stop !)) (look ! 4 refl)) (no-more !))) (λ u.
-        use1 W (later (some (λ (m : ℕ). ((‵ (flft κ q) ⊛ ‵ ftrue) ⊛ ‵ (usize .own m (u ∷ []))) ⊛ raw (ensured 𝓤 H A step.ended (step.clauses 𝓤 H A mem run) (κ, tt) (d .scan, (d .number, tt)) tt m)))) (id⊢ 𝓤 _) $ await ! tt $ pick ! (λ m.
+        move ! (12 ∷ []) $ use1 W (raw (Callee 𝓤 H A mem run .pre to) ⊛ ‵ (Own κ d)) (goes (wt .1 .1 .0 .fits)) $ split ! $
+        calls-at ! fm (Callee 𝓤 H A mem run) known to (and-then ! (load ! (from ! (stop !)) (look ! 6 refl)) (and-then ! (load ! (from ! (stop !)) (look ! 4 refl)) (no-more !))) (λ u.
+        use1 W (later (some (λ (m : ℕ). ((‵ (flft κ q) ⊛ ‵ ftrue) ⊛ ‵ (usize .own m (u ∷ []))) ⊛ raw (ensured 𝓤 H A callee.ended (callee.clauses 𝓤 H A mem run) (κ, tt) (d .scan, (d .number, tt)) tt m)))) (id⊢ 𝓤 _) $ await ! tt $ pick ! (λ m.
         split ! $ move ! (1 ∷ []) $ use1 W (raw (fact 𝓤 (m ≡ found))) (said m) $ heard ! (m ≡ found) (λ e. split ! $ move ! (1 ∷ []) $
         -- [the number; the token; what the struct owns; _5; …; _4; …; _3; …; _2; …; _1; …; room for _0; …]
         peeks ! usize (Is usize) (shows 𝓤 H A usize) m (u ∷ []) (λ is.
@@ -114,17 +111,12 @@ module _ {M : Type 1} (𝓤 : URA M) (H : Heap 𝓤) (A : Atoms 𝓤) (W : Given
         returns ! (look ! 13 refl) $ forget ! 3 refl $ forget ! 5 refl $ forget ! 7 refl $ forget ! 9 refl $ forget ! 11 refl $ forget ! 13 refl $
         move ! (13 ∷ 14 ∷ []) $ free1 ! $ move ! (11 ∷ 12 ∷ []) $ free1 ! $ move ! (9 ∷ 10 ∷ []) $ free1 ! $ move ! (7 ∷ 8 ∷ []) $ free1 ! $ move ! (5 ∷ 6 ∷ []) $ free1 ! $ move ! (3 ∷ 4 ∷ []) $ free1 ! $ free0 ! $ by ! (exits m u e (is .1))))))))))))
 
-module _ {M : Type 1} (𝓤 : URA M) (H : Heap 𝓤) (A : Atoms 𝓤) (W : Given 𝓤 H A) (mem : Memory → SProp 𝓤) (run : Routine → Fun 𝓤) where
-  after-walks : (C : Calls 𝓤 H) (Λ : Loops 𝓤 H) → FmC 𝓤 H (W .laws) C → Triple 𝓤 (C #classes·following) (StepAt 𝓤 H A mem run)
-      → Walks 𝓤 H A after.ended stayed (WpFn 𝓤 H C Λ code.function) (after.clauses 𝓤 H A mem run)
-  after-walks C Λ fm known = walked 𝓤 H A after.ended stayed (after.clauses 𝓤 H A mem run) (WpFn 𝓤 H C Λ code.function) (λ κs. (LL.vals (T.the-type (namedLft 1 0 tt κs)) (T′.the-laws (namedLft 1 0 tt κs)), tt)) (λ κs. (LL.tells (T.the-type (namedLft 1 0 tt κs)) (T′.the-laws (namedLft 1 0 tt κs)), tt))
-      (λ κs qs bounds a g are. via 𝓤 _ (fst∗ 𝓤 _ (emp 𝓤)) (walk 𝓤 H A W mem run (κs .0) (qs .0) (a .0) C Λ fm known (LL.lawful (T.the-type (namedLft 1 0 tt κs)) (T′.the-laws (namedLft 1 0 tt κs)) 𝓤 H A W .typed (a .0) _ (are .0) .0)))
-
 after-meets : {M : Type 1} (𝓤 : URA M) (H : Heap 𝓤) (A : Atoms 𝓤) (W : Given 𝓤 H A) (mem : Memory → SProp 𝓤) (run : Routine → Fun 𝓤) (𝓣 : Tables 𝓤 H)
-    → Triple 𝓤 (𝓣 .C #classes·following) (StepAt 𝓤 H A mem run)
+    → Triple 𝓤 (𝓣 .C #classes·following) (Callee 𝓤 H A mem run)
     → Meets 𝓤 H A after.signature (WpFn 𝓤 H (𝓣 .C) (𝓣 .Λ) code.function) (after.spec 𝓤 H A mem run)
-after-meets 𝓤 H A W mem run 𝓣 known-step = walk-meets 𝓤 H A after.ended stayed W (goes-none 𝓤 H A W 1 B yes (λ κs x f. refl), tt) (after.clauses 𝓤 H A mem run) (WpFn 𝓤 H (𝓣 .C) (𝓣 .Λ) code.function) (WpFn-mono 𝓤 H (W .laws) 𝓣 code.function)
-    (after-walks 𝓤 H A W mem run (𝓣 .C) (𝓣 .Λ) (fmOf 𝓤 H (W .laws) 𝓣) known-step)
+after-meets 𝓤 H A W mem run 𝓣 known = walk-meets 𝓤 H A after.ended stayed W (goes-none 𝓤 H A W 1 B yes (λ κs x f. refl), tt) (after.clauses 𝓤 H A mem run) (WpFn 𝓤 H (𝓣 .C) (𝓣 .Λ) code.function) (WpFn-mono 𝓤 H (W .laws) 𝓣 code.function)
+    (walked 𝓤 H A after.ended stayed (after.clauses 𝓤 H A mem run) (WpFn 𝓤 H (𝓣 .C) (𝓣 .Λ) code.function) (λ κs. (LL.vals (T.the-type (namedLft 1 0 tt κs)) (T′.the-laws (namedLft 1 0 tt κs)), tt)) (λ κs. (LL.tells (T.the-type (namedLft 1 0 tt κs)) (T′.the-laws (namedLft 1 0 tt κs)), tt))
+    (λ κs qs bounds a g are. via 𝓤 _ (fst∗ 𝓤 _ (emp 𝓤)) (walk 𝓤 H A W mem run (κs .0) (qs .0) (a .0) (𝓣 .C) (𝓣 .Λ) (fmOf 𝓤 H (W .laws) 𝓣) known (LL.lawful (T.the-type (namedLft 1 0 tt κs)) (T′.the-laws (namedLft 1 0 tt κs)) 𝓤 H A W .typed (a .0) _ (are .0) .0))))
 
 pub after-spec : {M : Type 1} → stated.statement M
 unfolding code.routine tablesOf
@@ -132,4 +124,4 @@ after-spec 𝓤 H 𝓜 𝓖 𝓡 =
     entered 𝓤 H (tripleOf 𝓤 H (𝓖 .A) after.signature (after.spec 𝓤 H (𝓖 .A) (𝓜 .mem) (𝓡 .run)))
     (tables 𝓤 H 𝓜 𝓡 code.env .C) (tables 𝓤 H 𝓜 𝓡 code.env .Λ) #classes·after code.function (code.unfolded 𝓤 H 𝓜 𝓡)
     (after-meets 𝓤 H (𝓖 .A) (givenOf 𝓤 H 𝓜 𝓖) (𝓜 .mem) (𝓡 .run) (tablesOf 𝓤 H 𝓜 (tables 𝓤 H 𝓜 𝓡 code.env))
-    (cited 𝓤 H (StepAt 𝓤 H (𝓖 .A) (𝓜 .mem) (𝓡 .run)) 𝓜 𝓡 code.env #classes·following step-def.routine code.calls-classes·following (step-thm.met 𝓤 H 𝓜 𝓖 𝓡)))
+    (cited 𝓤 H (Callee 𝓤 H (𝓖 .A) (𝓜 .mem) (𝓡 .run)) 𝓜 𝓡 code.env #classes·following callee-def.routine code.calls-classes·following (callee-thm.met 𝓤 H 𝓜 𝓖 𝓡)))

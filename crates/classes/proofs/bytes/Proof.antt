@@ -15,7 +15,7 @@ use prog.Wp.{Heap, Calls, Loops, WpFn, Tables}
 use ghost.Atoms.{Atoms, sem}
 use contract.Monad.{Fun, fact}
 use contract.Running.{givenOf, tables, tablesOf}
-use types.Kit.{Given, ‵, raw, _⊛_, ⋆, some, later, _$_, _∵_, !, qed, by, move, use1, use2, split, join, pick, fjoin, suffices, frame, await, done}
+use types.Kit.{Given, ‵, raw, _⊛_, ⋆, some, later, _$_, _∵_, !, qed, by, move, use1, split, join, pick, fjoin, suffices, frame, await, done}
 use types.Part.{whole, sub, look-in}
 use types.Run.{look, init, forget, stop, fld, from, load, of-opd, and-then, no-more, assigns, land, returns, enter, alloc1, alloc0, params1, pass1, pass0, free1, free0}
 use sound.WpLaws.{FmC, fmOf, WpFn-mono}
@@ -32,18 +32,18 @@ use denote.Triple.Call.{calls-at}
 use denote.Triple.Entry.{onEntry}
 use denote.Triple.Spec.{Meets, tripleOf}
 use denote.Triple.Table.{entered, cited}
-use denote.Triple.Walked.{says, Stays, stay-none, walkOf, goes-none, Walks, ends-at, walked, walk-meets}
+use denote.Triple.Walked.{says, Stays, stay-none, walkOf, goes-none, ends-at, walked, walk-meets}
 use denote.Exit.{yes}
 use denote.Triple.Clauses.{ensured, lasts}
 use Rattle.paper.specs.Scan.{classOf, partOf}
 use Rattle.classes.specs.declared.Reader.{Reader}
-use Rattle.classes.proofs.Apart.{B, mach, Own, passed, apart}
+use Rattle.classes.proofs.Apart.{B, mach, Own, passed, handed}
 use Rattle.classes.proofs.Reader as T
 use Rattle.classes.proofs.Reader.Laws as T′
-use Rattle.scan.proofs.class_part as step
-use Rattle.scan.proofs.class_part.Symbol as step-def
+use Rattle.scan.proofs.class_part as callee
+use Rattle.scan.proofs.class_part.Symbol as callee-def
 use Rattle.scan.proofs.class_part.Symbol.{name as #scan·class-part}
-use Rattle.scan.proofs.class_part.Met as step-thm
+use Rattle.scan.proofs.class_part.Met as callee-thm
 use Rattle.classes.proofs.bytes.Key.{name as #classes·bytes}
 use Rattle.classes.proofs.bytes as bytes
 use Rattle.classes.proofs.bytes.Statement as stated
@@ -54,8 +54,8 @@ stayed = (stay-none B yes, tt)
 
 module _ {M : Type 1} (𝓤 : URA M) (H : Heap 𝓤) (A : Atoms 𝓤) (mem : Memory → SProp 𝓤) (run : Routine → Fun 𝓤) where
   -- the contract that the proof cites
-  abbrev StepAt : Contract 𝓤
-  StepAt = tripleOf 𝓤 H A step.signature (step.spec 𝓤 H A mem run)
+  abbrev Callee : Contract 𝓤
+  Callee = tripleOf 𝓤 H A callee.signature (callee.spec 𝓤 H A mem run)
 
 module _ {M : Type 1} (𝓤 : URA M) (H : Heap 𝓤) (A : Atoms 𝓤) (W : Given 𝓤 H A) (mem : Memory → SProp 𝓤) (run : Routine → Fun 𝓤) (κ : Lft) (q : Share) (d : Reader) where
   abbrev found : List ℕ
@@ -64,22 +64,19 @@ module _ {M : Type 1} (𝓤 : URA M) (H : Heap 𝓤) (A : Atoms 𝓤) (W : Given
   abbrev Post : Val → SProp 𝓤
   Post = walkOf 𝓤 H A bytes.ended stayed (bytes.clauses 𝓤 H A mem run) .post (((κ, tt), (q, tt), tt, (d, tt), (mach κ d ∷ [], tt)), tt)
 
-  abbrev to : StepAt 𝓤 H A mem run .Ghost
+  abbrev to : Callee 𝓤 H A mem run .Ghost
   to = (((κ, tt), (q, tt), tt, (d .scan, (d .number, tt)), (passed κ d)), tt)
 
-  asked : ent 𝓤 (onEntry 𝓤 H A step.signature (κ, tt) (q, tt) (d .scan, (d .number, tt)) (passed κ d)) (StepAt 𝓤 H A mem run .pre to)
+  asked : ent 𝓤 (onEntry 𝓤 H A callee.signature (κ, tt) (q, tt) (d .scan, (d .number, tt)) (passed κ d)) (Callee 𝓤 H A mem run .pre to)
   asked = qed W ((‵ (flft κ q) ⊛ ‵ ftrue) ∷ ‵ (owns (ShrSlice (named 0) κ u8 ∷ usize ∷ []) (d .scan, (d .number, tt)) (passed κ d)) ∷ []) ∵ join ! $ frame ! $ done !
 
   -- what the struct owns gives what the callee asks, and is kept
-  goes : d .number < 2 ^ 64 → ent 𝓤 (onEntry 𝓤 H A bytes.signature (κ, tt) (q, tt) (d, tt) (mach κ d ∷ [], tt)) (sep 𝓤 (StepAt 𝓤 H A mem run .pre to) (sem 𝓤 H A (Own κ d)))
-  goes fits =
-      via 𝓤 _ (apart 𝓤 H A W κ q d fits)
-      (qed W ((‵ (flft κ q) ⊛ ‵ ftrue) ∷ ‵ (owns (ShrSlice (named 0) κ u8 ∷ usize ∷ []) (d .scan, (d .number, tt)) (passed κ d)) ∷ ‵ (Own κ d) ∷ []) ∵
-      use2 W (raw (StepAt 𝓤 H A mem run .pre to)) asked $ frame ! $ done !)
+  goes : d .number < 2 ^ 64 → ent 𝓤 (onEntry 𝓤 H A bytes.signature (κ, tt) (q, tt) (d, tt) (mach κ d ∷ [], tt)) (sep 𝓤 (Callee 𝓤 H A mem run .pre to) (sem 𝓤 H A (Own κ d)))
+  goes fits = handed 𝓤 H A W κ q d fits (Callee 𝓤 H A mem run .pre to) asked
 
   -- of the callee's `ensured`, the clause alone: it has no `&mut`, so what is said of last values is dropped
-  said : (r : RefT (List ℕ)) → ent 𝓤 (ensured 𝓤 H A step.ended (step.clauses 𝓤 H A mem run) (κ, tt) (d .scan, (d .number, tt)) tt r) (fact 𝓤 (now r ≡ found))
-  said r = exE 𝓤 _ (λ ws. snd∗ 𝓤 (sem 𝓤 H A (lasts step.ended (κ, tt) (d .scan, (d .number, tt)) ws)) (fact 𝓤 (now r ≡ found)))
+  said : (r : RefT (List ℕ)) → ent 𝓤 (ensured 𝓤 H A callee.ended (callee.clauses 𝓤 H A mem run) (κ, tt) (d .scan, (d .number, tt)) tt r) (fact 𝓤 (now r ≡ found))
+  said r = exE 𝓤 _ (λ ws. snd∗ 𝓤 (sem 𝓤 H A (lasts callee.ended (κ, tt) (d .scan, (d .number, tt)) ws)) (fact 𝓤 (now r ≡ found)))
 
   exits : (r : RefT (List ℕ)) (u : Val) → now r ≡ found → ent 𝓤 (⋆ 𝓤 H A (‵ ((ShrSlice (named 0) κ u8) .own r (u ∷ [])) ∷ (‵ (flft κ q) ⊛ ‵ ftrue) ∷ ‵ (Own κ d) ∷ [])) (Post u)
   exits r u e =
@@ -87,16 +84,16 @@ module _ {M : Type 1} (𝓤 : URA M) (H : Heap 𝓤) (A : Atoms 𝓤) (W : Given
       suffices ! _ (ends-at 𝓤 H A bytes.ended stayed (bytes.clauses 𝓤 H A mem run) W (((κ, tt), (q, tt), tt, (d, tt), (mach κ d ∷ [], tt)), tt) u r (tt, tt) (tt, tt)) $ says ! e $
       move ! (1 ∷ []) $ frame ! $ nothing ! $ move ! (2 ∷ 0 ∷ []) $ fjoin ! $ frame ! $ done !
 
-  module _ (C : Calls 𝓤 H) (Λ : Loops 𝓤 H) (fm : FmC 𝓤 H (W .laws) C) (known : Triple 𝓤 (C #scan·class-part) (StepAt 𝓤 H A mem run)) where
+  module _ (C : Calls 𝓤 H) (Λ : Loops 𝓤 H) (fm : FmC 𝓤 H (W .laws) C) (known : Triple 𝓤 (C #scan·class-part) (Callee 𝓤 H A mem run)) where
     walk : Holds (hasTy (T′.mir (named 0)) (mach κ d)) × WT (mach κ d) → ent 𝓤 (onEntry 𝓤 H A bytes.signature (κ, tt) (q, tt) (d, tt) (mach κ d ∷ [], tt)) (WpFn 𝓤 H C Λ code.function (mach κ d ∷ []) Post)
     walk wt =
         qed W (raw (onEntry 𝓤 H A bytes.signature (κ, tt) (q, tt) (d, tt) (mach κ d ∷ [], tt)) ∷ []) ∵ enter ! C Λ code.function (mach κ d ∷ []) _ $
         alloc1 ! (λ l₀. alloc1 ! (λ l₁. alloc1 ! (λ l₂. alloc1 ! (λ l₃. alloc0 ! $ params1 ! $ pass1 ! (init ! 4 refl wt) $ pass0 ! $
         assigns ! (of-opd ! (load ! (from ! (fld ! refl (stop !))) (look-in ! 4 (sub ! 0 refl (whole !))))) (from ! (stop !)) (init ! 2 refl (tt, wt .1 .0)) $
         assigns ! (of-opd ! (load ! (from ! (fld ! refl (stop !))) (look-in ! 4 (sub ! 1 refl (whole !))))) (from ! (stop !)) (init ! 0 refl (tt, wt .1 .1 .0)) $
-        move ! (8 ∷ []) $ use1 W (raw (StepAt 𝓤 H A mem run .pre to) ⊛ ‵ (Own κ d)) (goes (wt .1 .1 .0 .fits)) $ split ! $
-        calls-at ! fm (StepAt 𝓤 H A mem run) known to (and-then ! (load ! (from ! (stop !)) (look ! 4 refl)) (and-then ! (load ! (from ! (stop !)) (look ! 2 refl)) (no-more !))) (λ u.
-        use1 W (later (some (λ (r : RefT (List ℕ)). ((‵ (flft κ q) ⊛ ‵ ftrue) ⊛ ‵ ((ShrSlice (named 0) κ u8) .own r (u ∷ []))) ⊛ raw (ensured 𝓤 H A step.ended (step.clauses 𝓤 H A mem run) (κ, tt) (d .scan, (d .number, tt)) tt r)))) (id⊢ 𝓤 _) $ await ! tt $ pick ! (λ r.
+        move ! (8 ∷ []) $ use1 W (raw (Callee 𝓤 H A mem run .pre to) ⊛ ‵ (Own κ d)) (goes (wt .1 .1 .0 .fits)) $ split ! $
+        calls-at ! fm (Callee 𝓤 H A mem run) known to (and-then ! (load ! (from ! (stop !)) (look ! 4 refl)) (and-then ! (load ! (from ! (stop !)) (look ! 2 refl)) (no-more !))) (λ u.
+        use1 W (later (some (λ (r : RefT (List ℕ)). ((‵ (flft κ q) ⊛ ‵ ftrue) ⊛ ‵ ((ShrSlice (named 0) κ u8) .own r (u ∷ []))) ⊛ raw (ensured 𝓤 H A callee.ended (callee.clauses 𝓤 H A mem run) (κ, tt) (d .scan, (d .number, tt)) tt r)))) (id⊢ 𝓤 _) $ await ! tt $ pick ! (λ r.
         split ! $ move ! (1 ∷ []) $ use1 W (raw (fact 𝓤 (now r ≡ found))) (said r) $ heard ! (now r ≡ found) (λ e. split ! $ move ! (1 ∷ []) $
         -- [the result; the token; what the struct owns; _3; …; _2; …; _1; …; room for _0; …]
         peeks ! (ShrSlice (named 0) κ u8) (Is (ShrSlice (named 0) κ u8)) (shows 𝓤 H A (ShrSlice (named 0) κ u8)) r (u ∷ []) (λ is.
@@ -104,17 +101,12 @@ module _ {M : Type 1} (𝓤 : URA M) (H : Heap 𝓤) (A : Atoms 𝓤) (W : Given
         returns ! (look ! 9 refl) $ forget ! 3 refl $ forget ! 5 refl $ forget ! 7 refl $ forget ! 9 refl $
         move ! (9 ∷ 10 ∷ []) $ free1 ! $ move ! (7 ∷ 8 ∷ []) $ free1 ! $ move ! (5 ∷ 6 ∷ []) $ free1 ! $ move ! (3 ∷ 4 ∷ []) $ free1 ! $ free0 ! $ by ! (exits r u e)))))))))
 
-module _ {M : Type 1} (𝓤 : URA M) (H : Heap 𝓤) (A : Atoms 𝓤) (W : Given 𝓤 H A) (mem : Memory → SProp 𝓤) (run : Routine → Fun 𝓤) where
-  bytes-walks : (C : Calls 𝓤 H) (Λ : Loops 𝓤 H) → FmC 𝓤 H (W .laws) C → Triple 𝓤 (C #scan·class-part) (StepAt 𝓤 H A mem run)
-      → Walks 𝓤 H A bytes.ended stayed (WpFn 𝓤 H C Λ code.function) (bytes.clauses 𝓤 H A mem run)
-  bytes-walks C Λ fm known = walked 𝓤 H A bytes.ended stayed (bytes.clauses 𝓤 H A mem run) (WpFn 𝓤 H C Λ code.function) (λ κs. (LL.vals (T.the-type (namedLft 1 0 tt κs)) (T′.the-laws (namedLft 1 0 tt κs)), tt)) (λ κs. (LL.tells (T.the-type (namedLft 1 0 tt κs)) (T′.the-laws (namedLft 1 0 tt κs)), tt))
-      (λ κs qs bounds a g are. via 𝓤 _ (fst∗ 𝓤 _ (emp 𝓤)) (walk 𝓤 H A W mem run (κs .0) (qs .0) (a .0) C Λ fm known (LL.lawful (T.the-type (namedLft 1 0 tt κs)) (T′.the-laws (namedLft 1 0 tt κs)) 𝓤 H A W .typed (a .0) _ (are .0) .0)))
-
 bytes-meets : {M : Type 1} (𝓤 : URA M) (H : Heap 𝓤) (A : Atoms 𝓤) (W : Given 𝓤 H A) (mem : Memory → SProp 𝓤) (run : Routine → Fun 𝓤) (𝓣 : Tables 𝓤 H)
-    → Triple 𝓤 (𝓣 .C #scan·class-part) (StepAt 𝓤 H A mem run)
+    → Triple 𝓤 (𝓣 .C #scan·class-part) (Callee 𝓤 H A mem run)
     → Meets 𝓤 H A bytes.signature (WpFn 𝓤 H (𝓣 .C) (𝓣 .Λ) code.function) (bytes.spec 𝓤 H A mem run)
-bytes-meets 𝓤 H A W mem run 𝓣 known-step = walk-meets 𝓤 H A bytes.ended stayed W (goes-none 𝓤 H A W 1 B yes (λ κs x f. refl), tt) (bytes.clauses 𝓤 H A mem run) (WpFn 𝓤 H (𝓣 .C) (𝓣 .Λ) code.function) (WpFn-mono 𝓤 H (W .laws) 𝓣 code.function)
-    (bytes-walks 𝓤 H A W mem run (𝓣 .C) (𝓣 .Λ) (fmOf 𝓤 H (W .laws) 𝓣) known-step)
+bytes-meets 𝓤 H A W mem run 𝓣 known = walk-meets 𝓤 H A bytes.ended stayed W (goes-none 𝓤 H A W 1 B yes (λ κs x f. refl), tt) (bytes.clauses 𝓤 H A mem run) (WpFn 𝓤 H (𝓣 .C) (𝓣 .Λ) code.function) (WpFn-mono 𝓤 H (W .laws) 𝓣 code.function)
+    (walked 𝓤 H A bytes.ended stayed (bytes.clauses 𝓤 H A mem run) (WpFn 𝓤 H (𝓣 .C) (𝓣 .Λ) code.function) (λ κs. (LL.vals (T.the-type (namedLft 1 0 tt κs)) (T′.the-laws (namedLft 1 0 tt κs)), tt)) (λ κs. (LL.tells (T.the-type (namedLft 1 0 tt κs)) (T′.the-laws (namedLft 1 0 tt κs)), tt))
+    (λ κs qs bounds a g are. via 𝓤 _ (fst∗ 𝓤 _ (emp 𝓤)) (walk 𝓤 H A W mem run (κs .0) (qs .0) (a .0) (𝓣 .C) (𝓣 .Λ) (fmOf 𝓤 H (W .laws) 𝓣) known (LL.lawful (T.the-type (namedLft 1 0 tt κs)) (T′.the-laws (namedLft 1 0 tt κs)) 𝓤 H A W .typed (a .0) _ (are .0) .0))))
 
 pub bytes-spec : {M : Type 1} → stated.statement M
 unfolding code.routine tablesOf
@@ -122,4 +114,4 @@ bytes-spec 𝓤 H 𝓜 𝓖 𝓡 =
     entered 𝓤 H (tripleOf 𝓤 H (𝓖 .A) bytes.signature (bytes.spec 𝓤 H (𝓖 .A) (𝓜 .mem) (𝓡 .run)))
     (tables 𝓤 H 𝓜 𝓡 code.env .C) (tables 𝓤 H 𝓜 𝓡 code.env .Λ) #classes·bytes code.function (code.unfolded 𝓤 H 𝓜 𝓡)
     (bytes-meets 𝓤 H (𝓖 .A) (givenOf 𝓤 H 𝓜 𝓖) (𝓜 .mem) (𝓡 .run) (tablesOf 𝓤 H 𝓜 (tables 𝓤 H 𝓜 𝓡 code.env))
-    (cited 𝓤 H (StepAt 𝓤 H (𝓖 .A) (𝓜 .mem) (𝓡 .run)) 𝓜 𝓡 code.env #scan·class-part step-def.routine code.calls-scan·class-part (step-thm.met 𝓤 H 𝓜 𝓖 𝓡)))
+    (cited 𝓤 H (Callee 𝓤 H (𝓖 .A) (𝓜 .mem) (𝓡 .run)) 𝓜 𝓡 code.env #scan·class-part callee-def.routine code.calls-scan·class-part (callee-thm.met 𝓤 H 𝓜 𝓖 𝓡)))

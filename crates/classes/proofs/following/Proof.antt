@@ -1,3 +1,4 @@
+-- `classes::following`: one more up to the count, and the same past it.
 use borrow.Author.Tests.{le-leb, lt-leb}
 use borrow.Author.Needs.{needs}
 use Rattle.classes.specs.Walk.{nextOf}

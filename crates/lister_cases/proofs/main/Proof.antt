@@ -1,3 +1,4 @@
+-- `lister_cases::main`: the loop ends.
 use Prim.Native.Nat.{_-_}
 use borrow.Author.Needs.{needs}
 use Rattle.lister_cases.proofs.main.Statement.{statement}

@@ -1,3 +1,4 @@
+-- `listing::line`: an empty slot puts nothing, any other its three numbers.
 use Rattle.look.proofs.Putting.{put-none}
 use mathlib.Core.Path.{sym, _∙_}
 use borrow.Author.Needs.{needs}

@@ -1,3 +1,4 @@
+-- `listing::lines`: after i turns the lines of the first i slots are put.
 use Rattle.look.proofs.Putting.{put-begins, put-keeps, put-ends, next-room, next-put}
 use Rattle.listing.specs.Text.{lineFor}
 use Rattle.look.specs.Rows.{piecesIn}

@@ -1,3 +1,4 @@
+-- `listing::print`: the text lies within what it was put into.
 use Rattle.listing.proofs.Texts.{text-within}
 use lib.Seq.{length-take-le}
 use mathlib.Core.Path.{sym}

@@ -1,3 +1,4 @@
+-- `listing::refused`: number and slot fit the line, whatever the refusal.
 use Rattle.listing.proofs.Texts.{refused-short, refused-put}
 use native.Mathlib.Omega.{arith}
 use borrow.Author.Needs.{needs}

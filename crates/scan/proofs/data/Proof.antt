@@ -1,3 +1,4 @@
+-- `scan::data`: the span that was found, in the paper's numbers.
 use mathlib.Core.Path.{ap}
 use borrow.Author.Needs.{needs}
 use Rattle.paper.specs.Refusals.{spanSays}

@@ -1,3 +1,4 @@
+-- `scan::data_part`: the part that the data's span names.
 use mathlib.Core.Path.{ap, _∙_}
 use borrow.Author.Needs.{needs}
 use Rattle.paper.specs.Scan.{partOf}

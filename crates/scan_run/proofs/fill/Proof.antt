@@ -1,3 +1,4 @@
+-- `scan_run::fill`: the loop ends, within the array.
 use Prim.Native.Nat.{_-_, _≤_}
 use borrow.Author.Needs.{needs}
 use Rattle.scan_run.proofs.fill.Statement.{statement}

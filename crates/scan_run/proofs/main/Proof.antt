@@ -1,3 +1,4 @@
+-- `scan_run::main`: the loop ends.
 use Prim.Native.Nat.{_-_, _≤_}
 use borrow.Author.Needs.{needs}
 use Rattle.scan_run.proofs.main.Statement.{statement}

@@ -1,3 +1,4 @@
+-- `scan_run::sum`: the loop ends, within the part.
 use Prim.Native.Nat.{_-_, _≤_}
 use lib.ListN.{length}
 use borrow.Author.Needs.{needs}

@@ -1,3 +1,4 @@
+-- `whole::length`: a length is a whole number, by definition.
 use borrow.Author.Needs.{needs}
 use Rattle.whole.specs.Length.{lengthOf}
 use Rattle.whole.proofs.length.Statement.{statement}

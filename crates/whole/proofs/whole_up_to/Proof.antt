@@ -1,3 +1,4 @@
+-- `whole::whole_up_to`: a law of `Reach` for each return, by the exponent's field.
 use borrow.Author.Needs.{needs}
 use mathlib.Core.Path.{sym}
 use native.Mathlib.Omega.{arith}

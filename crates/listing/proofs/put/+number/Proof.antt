@@ -1,7 +1,7 @@
+-- `listing::put::number`: one digit, or the number without its last digit and then that. It calls itself on the number divided by 10.
 use Rattle.listing.proofs.Putting.{put-byte, put-more}
 use Rattle.listing.proofs.Decimals.{small, more, one, many}
 use lib.ListN.{length-set}
-use Prim.Native.Nat.{_+_, _/_}
 use native.Mathlib.Omega.{arith}
 use Prim.Native.Nat.{ℕ, _<_}
 use borrow.Fn.Kinds.{In}

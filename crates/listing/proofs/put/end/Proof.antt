@@ -1,3 +1,4 @@
+-- `listing::put::end`: one byte.
 use Rattle.listing.proofs.Putting.{put-byte}
 use borrow.Author.Needs.{needs}
 use Rattle.listing.proofs.put.end.Statement.{statement}

@@ -1,3 +1,4 @@
+-- `listing::put::field`: the word and then the number, each with its room.
 use Rattle.listing.proofs.Putting.{wrote, room-here, room-after, put-more}
 use Rattle.paper.specs.Lister.{decimal}
 use native.Mathlib.Omega.{arith}

@@ -1,3 +1,4 @@
+-- `listing::put::one`: a field and then a newline, each with its room.
 use mathlib.Core.List.{[], _∷_}
 use Rattle.listing.specs.Text.{fieldOf}
 use Rattle.listing.proofs.Putting.{room-here, room-after, put-more}

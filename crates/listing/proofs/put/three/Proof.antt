@@ -1,3 +1,4 @@
+-- `listing::put::three`: a field and then two more, each with its room.
 use Rattle.listing.specs.Text.{fieldOf, twoOf}
 use Rattle.listing.proofs.Putting.{room-here, room-after, put-more}
 use borrow.Author.Needs.{needs}

@@ -1,3 +1,4 @@
+-- `listing::put::two`: a field and then one more, each with its room.
 use Rattle.listing.specs.Text.{fieldOf, oneOf}
 use Rattle.listing.proofs.Putting.{room-here, room-after, put-more}
 use borrow.Author.Needs.{needs}

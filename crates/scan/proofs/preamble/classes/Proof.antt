@@ -1,3 +1,4 @@
+-- `scan::preamble::classes`: the natural number of the first integer.
 use mathlib.Core.Path.{ap, _∙_}
 use borrow.Author.Needs.{needs}
 use Rattle.paper.specs.Entry.{naturalOf}

@@ -1,3 +1,4 @@
+-- `scan::preamble::each_greater`: the first k pairs are in order; a pair that is not ends it.
 use Prim.Native.Nat.{ℕ, _+_, _-_, _≤_}
 use mathlib.Core.Path.{_≡_, sym, ap, _∙_, subst}
 use mathlib.Core.Bool.{Bool, true, false}

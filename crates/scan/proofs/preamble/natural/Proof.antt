@@ -1,3 +1,4 @@
+-- `scan::preamble::natural`: a negative integer counts as 0, any other as itself.
 use mathlib.Core.Path.{sym, ap, _∙_}
 use native.Mathlib.Omega.{arith}
 use lib.Dec.{lit<}

@@ -1,3 +1,4 @@
+-- `scan::preamble::starts`: after k turns the first k starts stand in the array.
 use Prim.Native.Nat.{ℕ, _+_, _-_, _*_, _≤_}
 use mathlib.Core.Path.{_≡_, _∙_}
 use mathlib.Core.List.{List}

@@ -1,3 +1,4 @@
+-- `scan::preamble::word`: an integer that is passed on stays as it is.
 use lib.ListN.{getD}
 use lib.IntN.{pos}
 use borrow.Author.Needs.{needs}

@@ -1,3 +1,4 @@
+-- `scan::rules::count_kept`: the two tests of rule 2, in order.
 use borrow.Author.Tests.{lt-leb, le-leb}
 use Rattle.paper.specs.Scan.{rule2}
 use Rattle.lent.proofs.Lists.{also-unit}

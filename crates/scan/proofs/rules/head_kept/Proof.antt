@@ -1,3 +1,4 @@
+-- `scan::rules::head_kept`: no length, a test of rule 4 that fails, or HEADLEN.
 use mathlib.Core.Path.{_≡_, sym, _∙_}
 use native.Mathlib.Omega.{arith}
 use borrow.Author.Needs.{needs}

@@ -1,3 +1,4 @@
+-- `scan::rules::judge`: a law of the rules for each return, from the rules that are known to be kept so far.
 use Prim.Native.Nat.{ℕ, _-_}
 use mathlib.Core.Path.{_≡_, sym, ap, _∙_}
 use mathlib.Core.Bool.{true}

@@ -1,3 +1,4 @@
+-- `scan::rules::length_at`: the length of the double that is read.
 use Prim.Native.Nat.{ℕ}
 use mathlib.Core.Path.{ap, _∙_}
 use borrow.Author.Needs.{needs}

@@ -1,3 +1,4 @@
+-- `scan::rules::rest_kept`: no length, a test of rule 5 that fails, or DATALEN.
 use mathlib.Core.Path.{_≡_, sym, _∙_}
 use native.Mathlib.Omega.{arith}
 use borrow.Author.Needs.{needs}

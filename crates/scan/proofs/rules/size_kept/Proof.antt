@@ -1,3 +1,4 @@
+-- `scan::rules::size_kept`: the two tests of rule 1, the second only when saving.
 use mathlib.Core.Path.{sym}
 use borrow.Author.Tests.{lt-leb, le-leb}
 use Rattle.paper.specs.Scan.{rule1}

@@ -1,3 +1,4 @@
+-- `scan::rules::starts_kept`: the three tests of rule 3, in order.
 use mathlib.Core.Path.{sym, _∙_}
 use borrow.Author.Tests.{lt-leb, le-leb, eq-eqb, ne-eqb}
 use borrow.Author.Needs.{needs}

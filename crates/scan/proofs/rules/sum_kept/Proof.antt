@@ -1,3 +1,4 @@
+-- `scan::rules::sum_kept`: rule 6 is asked only when saving.
 use Rattle.scan.proofs.rules.sum_kept.Statement.{statement}
 use Rattle.scan.proofs.rules.sum_kept.Tie as tie
 

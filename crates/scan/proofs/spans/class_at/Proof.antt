@@ -1,3 +1,4 @@
+-- `scan::spans::class_at`: words are counted from 1, and a start of 0 stands for none.
 use borrow.Author.Needs.{needs}
 use Rattle.paper.specs.Scan.{classAt}
 use Rattle.scan.proofs.spans.class_at.Statement.{statement}

@@ -1,3 +1,4 @@
+-- `scan::spans::class_in`: a number below 1, one above the count, the last class, and one before it.
 use borrow.Author.Tests.{le-leb, lt-leb, eq-eqb, ne-eqb}
 use borrow.Author.Needs.{needs}
 use Rattle.paper.specs.Scan.{classIn, classEnd}

@@ -1,3 +1,4 @@
+-- `scan::spans::class_span`: 11 where the rules are broken, else the class by what the preamble says.
 use Prim.Native.Nat.{ℕ}
 use mathlib.Core.Path.{_≡_, sym, _∙_}
 use mathlib.Core.Bool.{false}

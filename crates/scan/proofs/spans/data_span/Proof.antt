@@ -1,3 +1,4 @@
+-- `scan::spans::data_span`: 11 where the rules are broken, else what follows HEADLEN.
 use mathlib.Core.Path.{_≡_, sym, _∙_}
 use mathlib.Core.Bool.{false}
 use native.Mathlib.Omega.{arith}

@@ -1,3 +1,4 @@
+-- `scan::spans::part_of`: the part itself, or nothing for a refusal.
 use mathlib.Core.Path.{sym, ap, _∙_}
 use borrow.Author.Needs.{needs}
 use Rattle.paper.specs.Scan.{partOf}

@@ -1,3 +1,4 @@
+-- `Refusal::value`: the cases that carry a slot or a reason hand it back.
 use borrow.Author.Needs.{needs}
 use Rattle.paper.proofs.refusal.Refusal.value.Statement.{statement}
 use Rattle.paper.proofs.refusal.Refusal.value.Tie as tie

@@ -1,3 +1,4 @@
+-- `Sizes::capacity`: the product fits, since the index is small.
 use native.Mathlib.Omega.{arith}
 use Rattle.paper.proofs.Sizing.{index-small}
 use borrow.Author.Needs.{needs}

@@ -1,3 +1,4 @@
+-- `Sizes::home`: the product and the sum fit, since slot and entry are small.
 use native.Mathlib.Omega.{arith}
 use Rattle.paper.proofs.Sizing.{slot-small}
 use borrow.Author.Needs.{needs}

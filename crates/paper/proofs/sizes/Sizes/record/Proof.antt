@@ -1,3 +1,4 @@
+-- `Sizes::record`: the product and the sum fit, since slot and entry are small.
 use Prim.Native.Nat.{_-_, _*_}
 use native.Mathlib.Nat.{div-le-self}
 use native.Mathlib.Omega.{arith}
