@@ -1,3 +1,3 @@
-pub mod Booting
-pub mod Rows
-pub mod Judging
+pub mod Rising
+pub mod Laying
+pub mod Answers

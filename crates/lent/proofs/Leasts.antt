@@ -36,11 +36,11 @@ orElse-pos zero t n h = absurd (omega arith)
 orElse-pos (suc k) t n h = refl
 
 -- `least` finds none, or finds the lowest
-pub data View (p : ℕ → Bool) (n : ℕ) : ℕ → Type 0 where
+data View (p : ℕ → Bool) (n : ℕ) : ℕ → Type 0 where
   nothing : None p n → View p n 0
   lowest : {k : ℕ} → Lowest p n k → View p n k
 
-pub view : (p : ℕ → Bool) (n : ℕ) → View p n (least p n)
+view : (p : ℕ → Bool) (n : ℕ) → View p n (least p n)
 unfolding least
 view p zero = nothing (none-zero p)
 view p (suc n) = go (least p n) (view p n) (p (suc n)) refl

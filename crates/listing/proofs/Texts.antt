@@ -18,11 +18,11 @@ use Rattle.paper.specs.Sizes.{capacityOf, Ranged}
 use Rattle.paper.specs.Index.{runOf, Full, slotsOf, openOf, Lies, Sound}
 use Rattle.paper.specs.Lister.{decimal, linesText, textOf, listText, slotsWord, usedWord, scansWord, refusedWord, slotWord}
 use Rattle.paper.proofs.Opening.{open-sound, inside-all}
-use Rattle.index.specs.Row.{rowRun, Runs}
+use Rattle.entries.specs.Row.{rowRun, Runs}
 use Rattle.look.specs.Put.{Put}
 use Rattle.look.specs.Rows.{scansIn, joined, piecesIn}
 use Rattle.look.proofs.Putting.{same-pieces, all-short}
-use Rattle.look.proofs.Rowing.{row-runs, row-slots}
+use Rattle.look.proofs.Rowing.{row-slots}
 use Rattle.listing.specs.Text.{twoOf, threeOf, headOf, lineFor, refusedOf}
 use Rattle.listing.proofs.Decimals.{length-decimal, length-most}
 
@@ -50,13 +50,13 @@ opens-text f z =
     (three-then slotsWord (capacityOf z) usedWord (z .u) scansWord (length (slotsOf z (runOf f z))) (linesText (runOf f z) (slotsOf z (runOf f z))))
 
 -- the same from a row that holds the runs
-pub text-opens : (f : List ℕ) {z : Sizes} (o : openOf f ≡ Opens z) (row : List ℕ) (rs : Runs f z row (capacityOf z)) (used : z .u ≤ capacityOf z)
+pub text-opens : (f : List ℕ) {z : Sizes} (o : openOf f ≡ Opens z) (row : List ℕ) (rs : Runs f z row (z .u))
     {cap n : ℕ} → cap ≡ capacityOf z → n ≡ length (scansIn (rowRun row) (z .u))
     → headOf cap (z .u) n ++ piecesIn lineFor (rowRun row) (z .u) ≡ listText f
 unfolding listText
-text-opens f {z} o row rs used {cap} {n} p q =
-    let e : n ≡ length (slotsOf z (runOf f z)) = q ∙ ap length (row-slots f row rs used) in
-    rw (o, p, e, same-pieces lineFor (rowRun row) (runOf f z) (z .u) (row-runs f row rs used)) (opens-text f z)
+text-opens f {z} o row rs {cap} {n} p q =
+    let e : n ≡ length (slotsOf z (runOf f z)) = q ∙ ap length (row-slots f row rs) in
+    rw (o, p, e, same-pieces lineFor (rowRun row) (runOf f z) (z .u) (rs .run)) (opens-text f z)
 
 -- ---- its length
 
@@ -102,9 +102,8 @@ lines-short f {z} o =
         line-short s (runOf f z s) (omega arith) (omega (arith, lies-first z (runOf f z s) h)) (omega (arith, h .high))
 
 -- so that with the head no text is longer than 90,000 bytes
-pub row-short : (f : List ℕ) {z : Sizes} → openOf f ≡ Opens z → (row : List ℕ) → Runs f z row (capacityOf z) → z .u ≤ capacityOf z
-    → length (piecesIn lineFor (rowRun row) (z .u)) ≤ 86016
-row-short f {z} o row rs used = rw (same-pieces lineFor (rowRun row) (runOf f z) (z .u) (row-runs f row rs used)) (lines-short f o)
+pub row-short : (f : List ℕ) {z : Sizes} → openOf f ≡ Opens z → (row : List ℕ) → Runs f z row (z .u) → length (piecesIn lineFor (rowRun row) (z .u)) ≤ 86016
+row-short f {z} o row rs = rw (same-pieces lineFor (rowRun row) (runOf f z) (z .u) (rs .run)) (lines-short f o)
 
 -- ---- what was put is the text
 

@@ -4,7 +4,7 @@ ghost use Prim.Native.Nat.{_+_, _≤_};
 ghost use lib.ListN.{length};
 ghost use Rattle.lent.specs.Write.{write};
 ghost use Rattle.paper.specs.Lister.{listText};
-ghost use Rattle.index.specs.Row.{rowRun};
+ghost use Rattle.entries.specs.Row.{rowRun};
 ghost use Rattle.look.specs.Put.{Put};
 ghost use Rattle.look.specs.Rows.{pieceIf, piecesIn};
 ghost use Rattle.listing.specs.Text.{lineFor, refusedOf};
@@ -20,7 +20,7 @@ fn line(out: &mut [u8], at: usize, s: usize, a: Run) -> usize
     requires { ⌜ at + length (pieceIf lineFor s a) ≤ length (now out) ⌝ }
     ensures { λ r. ⌜ Put (now (out .entry)) at (pieceIf lineFor s a) (now (out .exit)) r ⌝ }
 {
-    if index::entry::empty(a) {
+    if entries::entry::empty(a) {
         return at;
     }
     put::three(&mut *out, at, b"", s, b" ", a.first, b" ", a.last)
@@ -35,7 +35,7 @@ fn lines(row: &[u32], u: usize, out: &mut [u8], from: usize) -> usize
     let mut at = from;
     let mut i = 0;
     while i < u {
-        let a = index::row::run_in(row, i + 1);
+        let a = entries::row::run_in(row, i + 1);
         at = line(&mut *out, at, i + 1, a);
         i += 1;
     }

@@ -19,10 +19,9 @@ use Rattle.paper.specs.declared.refusal.Refusal.the-variants.{TooSmall}
 use Rattle.paper.specs.declared.answer.Opened.the-variants.{Opens, Refused}
 use Rattle.paper.specs.declared.answer.Listed.{Listed}
 use Rattle.paper.specs.declared.answer.Listed.the-variants.{Scans, Refused as Unlisted}
-use Rattle.paper.specs.Sizes.{capacityOf}
 use Rattle.paper.specs.Index.{runOf, empty, slotsOf, openOf}
 use Rattle.paper.specs.Look.{linesOf, listedOf, listedOut}
-use Rattle.index.specs.Row.{rowRun, Runs}
+use Rattle.entries.specs.Row.{rowRun, Runs}
 use Rattle.look.specs.Put.{Put}
 use Rattle.look.specs.Rows.{full, scansIn, oneIf, joined, pieceIf, piecesIn, rowOf}
 use Rattle.look.proofs.Calls.{call-opens, call-refused}
@@ -65,17 +64,14 @@ rows-fit run u n room e h = omega (arith, three-each run (scansIn run u))
 
 -- ---- a row that holds the runs of a file
 
-module _ (f : List ℕ) {z : Sizes} (row : List ℕ) (rs : Runs f z row (capacityOf z)) (used : z .u ≤ capacityOf z) where
-  pub row-runs : (s : ℕ) → 1 ≤ s → s ≤ z .u → rowRun row s ≡ runOf f z s
-  row-runs s a b = rs .run s a (omega arith)
-
+module _ (f : List ℕ) {z : Sizes} (row : List ℕ) (rs : Runs f z row (z .u)) where
   pub row-slots : scansIn (rowRun row) (z .u) ≡ slotsOf z (runOf f z)
   unfolding slotsOf
-  row-slots = those-same (full (rowRun row)) (full (runOf f z)) (z .u) (λ s a b. ap (λ (r : Run). not (empty r)) (row-runs s a b))
+  row-slots = those-same (full (rowRun row)) (full (runOf f z)) (z .u) (λ s a b. ap (λ (r : Run). not (empty r)) (rs .run s a b))
 
   row-lines : piecesIn rowOf (rowRun row) (z .u) ≡ linesOf (runOf f z) (slotsOf z (runOf f z))
   unfolding slotsOf
-  row-lines = same-pieces rowOf (rowRun row) (runOf f z) (z .u) row-runs ∙ sym (lines-rows (runOf f z) (scansIn (runOf f z) (z .u)))
+  row-lines = same-pieces rowOf (rowRun row) (runOf f z) (z .u) (rs .run) ∙ sym (lines-rows (runOf f z) (scansIn (runOf f z) (z .u)))
 
 -- ---- each answer of the list, and what is lent afterwards
 
@@ -93,10 +89,10 @@ module _ (f out : List ℕ) where
   unfolding listedOf listedOut
   list-refused o = (call-refused f Unlisted own scans o, call-refused f (λ r. out) own lines o)
 
-  module _ {z : Sizes} (o : openOf f ≡ Opens z) (row : List ℕ) (rs : Runs f z row (capacityOf z)) (used : z .u ≤ capacityOf z)
+  module _ {z : Sizes} (o : openOf f ≡ Opens z) (row : List ℕ) (rs : Runs f z row (z .u))
       (n : ℕ) (e : n ≡ length (scansIn (rowRun row) (z .u))) where
     count : n ≡ length (slotsOf z (runOf f z))
-    count = e ∙ ap length (row-slots f row rs used)
+    count = e ∙ ap length (row-slots f row rs)
 
     pub list-small : length out < 3 * n → (Unlisted TooSmall ≡ listedOf f out) × (out ≡ listedOut f out)
     unfolding listedOf listedOut
@@ -108,4 +104,4 @@ module _ (f out : List ℕ) where
     unfolding listedOf listedOut
     list-done next h p =
         let t : ltb (length out) (3 * length (slotsOf z (runOf f z))) ≡ false = le-ltb (length out) (3 * length (slotsOf z (runOf f z))) (omega (arith, count)) in
-        (rw (call-opens f Unlisted own scans o, t) (ap Scans count), rw (call-opens f (λ r. out) own lines o, t) (p ∙ ap (write out 0) (row-lines f row rs used)))
+        (rw (call-opens f Unlisted own scans o, t) (ap Scans count), rw (call-opens f (λ r. out) own lines o, t) (p ∙ ap (write out 0) (row-lines f row rs)))

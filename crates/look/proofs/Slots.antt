@@ -1,11 +1,10 @@
 -- What is found at a slot, from plain facts and back to them.
 use Prim.Native.Nat.{ℕ, _+_, _*_, _≤_}
 use mathlib.Core.Path.{_≡_, refl, sym, _∙_, ap, subst}
-use mathlib.Core.Bool.{Bool, true, false}
+use mathlib.Core.Bool.{true, false}
 use mathlib.Core.List.{List, [], _∷_}
 use native.Mathlib.Nat.{mul-le-mul-right}
 use native.Mathlib.Omega.{arith}
-use lib.Dec.{leb}
 use lib.ListN.{length}
 use borrow.Author.Tests.{leb-true, le-leb, not-false}
 use Rattle.lent.specs.Lists.{all}
@@ -19,16 +18,13 @@ use Rattle.paper.specs.declared.refusal.Refusal.the-variants.{NoSuchSlot, Empty
 use Rattle.paper.specs.declared.answer.Opened.the-variants.{Opens, Refused}
 use Rattle.paper.specs.Sizes.{sizesOf, capacityOf, homeOf, Slotted}
 use Rattle.paper.specs.Index.{runOf, empty, openOf, Lies, Sound}
-use Rattle.paper.specs.Look.{noSlot, noScan, slotChecks}
+use Rattle.paper.specs.Look.{slotTests, noSlot, noScan, slotChecks}
 use Rattle.paper.proofs.Sizing.{bytes-small, home-in, slotted}
 use Rattle.paper.proofs.Opening.{open-reads, open-sound, then-clear, full-facts, lies-data, inside-all}
 use Rattle.look.specs.declared.slot.Held.{Held}
 use Rattle.look.specs.declared.slot.Held.the-variants.{Scan, Refused as Unheld}
 use Rattle.look.specs.Slot.{heldOf, Within}
 use Rattle.look.proofs.Calls.{call-opens, call-refused}
-
-abbrev tests : Sizes → ℕ → List Bool
-tests z s = leb 1 s ∷ leb s (capacityOf z) ∷ []
 
 abbrev own : List ℕ → ℕ → Sizes → List (Check Refusal)
 own f s z = noSlot z s ∷ noScan (runOf f z s) ∷ []
@@ -50,12 +46,12 @@ module _ (f : List ℕ) (s : ℕ) where
 
     pub find-outside : (1 ≤ s → s ≤ capacityOf z → ⊥) → Unheld NoSuchSlot ≡ heldOf f s
     find-outside h =
-        let e : all (tests z s) ≡ false = sym (no-all (tests z s) (λ t. h (leb-true _ _ (t .0)) (leb-true _ _ (t .1 .0)))) in
+        let e : all (slotTests z s) ≡ false = sym (no-all (slotTests z s) (λ t. h (leb-true _ _ (t .0)) (leb-true _ _ (t .1 .0)))) in
         rw (held-opens, e)
 
     module _ (low : 1 ≤ s) (high : s ≤ capacityOf z) {r : Run} (p : r ≡ runOf f z s) where
-      inside : all (tests z s) ≡ true
-      inside = true-all (tests z s) (le-leb _ _ low, (le-leb _ _ high, tt))
+      inside : all (slotTests z s) ≡ true
+      inside = true-all (slotTests z s) (le-leb _ _ low, (le-leb _ _ high, tt))
 
       pub find-empty : empty r ≡ true → Unheld EmptySlot ≡ heldOf f s
       find-empty h = rw (held-opens, inside, ← p, h)
@@ -77,7 +73,7 @@ pub clear-holding : (f : List ℕ) (s : ℕ) → fired (slotChecks f s) ≡ clea
 clear-holding f s e =
     let p = then-clear f (own f s (sizesOf f)) e in
     let c = clear-all (own f s (sizesOf f)) (p .1) in
-    let t = all-true (tests (sizesOf f) s) (not-false _ (c .0)) in
+    let t = all-true (slotTests (sizesOf f) s) (not-false _ (c .0)) in
     record { opens = p .0; clears = e; low = leb-true _ _ (t .0); high = leb-true _ _ (t .1 .0); run = refl; full = c .1 .0 }
 
 never : (z : Sizes) (r : Run) (q : Refusal) → Unheld q ≡ Scan z r → ⊥

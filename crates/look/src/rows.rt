@@ -4,7 +4,7 @@ ghost use Prim.Native.Nat.{_+_, _≤_, _<_};
 ghost use lib.ListN.{length};
 ghost use Rattle.lent.specs.Write.{write};
 ghost use Rattle.paper.specs.Look.{listedOf, listedOut};
-ghost use Rattle.index.specs.Row.{rowRun};
+ghost use Rattle.entries.specs.Row.{rowRun};
 ghost use Rattle.look.specs.Put.{Put};
 ghost use Rattle.look.specs.Rows.{scansIn, oneIf, pieceIf, piecesIn, rowOf, Narrow};
 use paper::answer::Listed;
@@ -17,7 +17,7 @@ fn next(n: usize, a: Run) -> usize
     requires { ⌜ n < 4096 ⌝ }
     ensures { λ k. ⌜ k ≡ n + oneIf a ⌝ }
 {
-    if index::entry::empty(a) {
+    if entries::entry::empty(a) {
         return n;
     }
     n + 1
@@ -31,7 +31,7 @@ pub fn scans(row: &[u32], u: usize) -> usize
     let mut n = 0;
     let mut i = 0;
     while i < u {
-        let a = index::row::run_in(row, i + 1);
+        let a = entries::row::run_in(row, i + 1);
         n = next(n, a);
         i += 1;
     }
@@ -44,7 +44,7 @@ fn put_row(out: &mut [u32], at: usize, s: usize, a: Run) -> usize
     requires { ⌜ at + length (pieceIf rowOf s a) ≤ length (now out) ⌝ }
     ensures { λ r. ⌜ Put (now (out .entry)) at (pieceIf rowOf s a) (now (out .exit)) r ⌝ }
 {
-    if index::entry::empty(a) {
+    if entries::entry::empty(a) {
         return at;
     }
     out[at] = s as u32;
@@ -62,7 +62,7 @@ fn fill(row: &[u32], u: usize, out: &mut [u32])
     let mut at = 0;
     let mut i = 0;
     while i < u {
-        let a = index::row::run_in(row, i + 1);
+        let a = entries::row::run_in(row, i + 1);
         at = put_row(&mut *out, at, i + 1, a);
         i += 1;
     }

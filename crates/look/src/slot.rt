@@ -12,12 +12,11 @@ pub enum Held {
     Refused(Refusal),
 }
 
-// The judgement leaves the runs in the row, so that no entry is decoded twice.
+// The file is judged as a whole; then the one entry is read.
 pub fn find(file: &[u8], slot: usize) -> Held
     ensures { λ r. ⌜ r ≡ heldOf (now (file .entry)) slot ⌝ }
 {
-    let mut row = [0u32; 8192];
-    let j = index::judged(file, &mut row);
+    let j = index::judge(file);
     match j {
         Opened::Refused(r) => Held::Refused(r),
         Opened::Opens(z) => {
@@ -27,8 +26,8 @@ pub fn find(file: &[u8], slot: usize) -> Held
             if z.capacity() < slot {
                 return Held::Refused(Refusal::NoSuchSlot);
             }
-            let a = index::row::run_in(&row, slot);
-            if index::entry::empty(a) {
+            let a = entries::row::run_at(file, z, slot);
+            if entries::entry::empty(a) {
                 return Held::Refused(Refusal::EmptySlot);
             }
             Held::Scan(z, a)

@@ -1,9 +1,11 @@
 //! A bit for each record, 64 to a word: a run of records is taken where none of them is taken yet.
 ghost use mathlib.Core.Path.{_≡_};
 ghost use mathlib.Core.Bool.{true};
-ghost use Prim.Native.Nat.{_+_, _*_, _≤_, _<_};
+ghost use Prim.Native.Nat.{_+_, _*_, _/_, _≤_, _<_};
 ghost use lib.ListN.{length};
 ghost use Rattle.marks.specs.Marks.{Took, ones};
+
+pub mod past;
 
 // The word whose bits `x` to `y` are set, made of its two powers of two.
 fn ones(x: usize, y: usize) -> u64
@@ -29,9 +31,9 @@ fn take_bits(marks: &mut [u64], i: usize, x: usize, y: usize) -> bool
     true
 }
 
-// Takes the records `a` to `b`, or answers that one of them was taken. 15,626 words hold the marks of the records up to 1,000,000.
+// Takes the records `a` to `b`, or answers that one of them was taken. The marks reach word `b / 64`; 15,626 words are the most, for the records up to 1,000,000.
 pub fn take_run(marks: &mut [u64], a: usize, b: usize) -> bool
-    requires { ⌜ (a ≤ b) × (b ≤ 1000000) × (15626 ≤ length (now marks)) ⌝ }
+    requires { ⌜ (a ≤ b) × (b ≤ 1000000) × (b / 64 < length (now marks)) ⌝ }
     ensures { λ r. ⌜ (r ≡ true → Took (now (marks .entry)) (now (marks .exit)) a (b + 1)) ⌝ }
 {
     let j = b / 64;

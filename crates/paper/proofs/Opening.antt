@@ -180,6 +180,9 @@ module _ (run : ℕ → Run) (s : ℕ) where
   facts-shared h =
       le-ltb 0 (sharer run (run s) (s - 1)) (omega (arith, none-sharer run (run s) (s - 1) (λ t a b. h t a (omega arith))))
 
+  pub empty-apart : run s .first + run s .last ≡ 0 → sharedAt run s ≡ false
+  empty-apart e = facts-shared (λ t a b h. omega arith)
+
 -- ---- the judgements: of the bootstrap
 
 never : (r : Refusal) (z : Sizes) → Refused r ≡ Opens z → ⊥

@@ -1,17 +1,16 @@
 -- Refusal numbers end at 17, slots at 4,096 and reasons at 6: what a refusal says fits the face.
-use Prim.Native.Nat.{ℕ, _+_, _-_, _*_, _≤_}
+use Prim.Native.Nat.{ℕ, _-_, _*_, _≤_}
 use mathlib.Core.Path.{_≡_, refl, sym, _∙_, subst}
-use mathlib.Core.Bool.{Bool, true, false, not, cond}
+use mathlib.Core.Bool.{Bool, true, false, cond}
 use mathlib.Core.List.{List, [], _∷_, _++_}
 use native.Mathlib.Omega.{arith}
 use lib.Dec.{ltb, leb, eqb}
 use lib.ListN.{length}
 use lib.IntN.{ℤ}
 use Rattle.lent.specs.Lists.{all}
-use Rattle.lent.specs.Least.{least}
 use Rattle.lent.specs.Checks.{Check, check, Fired, clear, fires, fired, answer, judge}
-use Rattle.lent.proofs.Leasts.{View, nothing, lowest, view}
-use Rattle.lent.proofs.Checks.{clear≢fires, fires-same, clear-append, fires-append}
+use Rattle.lent.proofs.Leasts.{least-le}
+use Rattle.lent.proofs.Checks.{clear≢fires, fires-same}
 use Rattle.paper.specs.declared.sizes.Sizes.{Sizes}
 use Rattle.paper.specs.declared.sizes.Run.{Run}
 use Rattle.paper.specs.declared.refusal.Refusal.{Refusal}
@@ -34,7 +33,7 @@ use Rattle.paper.specs.Sizes.{sizesOf, startOf, capacityOf, bootChecks, Ranged}
 use Rattle.paper.specs.Index.{runOf, shownOf, badAt, aboveAt, sharedAt, indexChecks, openChecks, bootOf, indexOf, openOf}
 use Rattle.paper.specs.Scan.{ruledOf, classAt, classEnd, classIn, ofRuled, classOf, dataOf, startsOf, classesOf}
 use Rattle.paper.specs.Look.{listOf, listChecks, listedOf, slotChecks, noSlot, noScan, foundOf, showOf, readIn, readOf}
-use Rattle.paper.specs.Store.{blankChecks, blankSizes, blankOf, reasonOf, scanChecks, refused, accepted, saveOf, keepOf, keepSlot, clearOf}
+use Rattle.paper.specs.Store.{blankChecks, blankSizes, blankOf, reasonOf, scanChecks, refused, saveOf, keepOf, keepSlot, clearOf}
 use Rattle.paper.specs.Step.{agrees, hasLeft, wroteOf, confirmed, confirmOf, stands, stepAnswer}
 use Rattle.paper.proofs.Opening.{boot-sound, open-index, open-refused, refused-fires, then-opens, then-refused}
 use Rattle.paper.proofs.Reasons.{reason-least}
@@ -69,13 +68,6 @@ small-fires : (cs : List (Check Refusal)) → AllSmall cs → (r : Refusal) → 
 small-fires [] h r e = absurd (clear≢fires clear r refl e)
 small-fires (check true q ∷ cs) h r e = subst (λ (x : Refusal). valueOf x ≤ 4096) (fires-same (fires q) q r refl e) (h .0)
 small-fires (check false q ∷ cs) h r e = small-fires cs (h .1) r e
-
-least-le : (p : ℕ → Bool) (n : ℕ) → least p n ≤ n
-least-le p n = go (least p n) (view p n)
-  where
-    go : (k : ℕ) → View p n k → k ≤ n
-    go k (nothing v) = omega arith
-    go k (lowest v) = v .high
 
 index-small : (z : Sizes) → Ranged z → (run : ℕ → Run) → AllSmall (indexChecks z run)
 index-small z R run = (

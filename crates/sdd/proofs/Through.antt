@@ -1,7 +1,10 @@
 -- From what a public call promises, in numbers and values, to its answer on the face.
-use Prim.Native.Nat.{ℕ, _≤_, _<_}
-use mathlib.Core.Path.{_≡_, refl, sym, ap, subst}
+use Prim.Native.Nat.{ℕ, zero, suc, _≤_, _<_}
+use mathlib.Core.Path.{_≡_, refl, sym, _∙_, ap, subst}
+use mathlib.Core.Bool.{Bool, true, false, cond}
 use mathlib.Core.List.{List}
+use native.Mathlib.Omega.{arith}
+use lib.Dec.{eqb}
 use borrow.Author.Tests.{lt-ltb, le-ltb}
 use Rattle.paper.specs.declared.answer.Span.{Span}
 use Rattle.paper.specs.declared.answer.Taken.{Taken}
@@ -10,14 +13,16 @@ use Rattle.paper.specs.declared.refusal.Refusal.the-variants.{Disagrees}
 use Rattle.paper.specs.declared.job.Job.{Job}
 use Rattle.paper.specs.declared.job.Begun.{Begun}
 use Rattle.paper.specs.declared.job.Step.{Step}
-use Rattle.paper.specs.declared.job.Step.the-variants.{Refused}
+use Rattle.paper.specs.declared.job.Step.the-variants as step
 use Rattle.paper.specs.declared.job.Stepped.{Stepped}
 use Rattle.paper.specs.Refusals.{spanSays, takenSays, stepSays}
-use Rattle.paper.specs.Step.{stepFile, stepJob, stepAnswer}
+use Rattle.paper.specs.Sizes.{sizesOf}
+use Rattle.paper.specs.Step.{agrees, hasLeft, stepFile, stepJob, stepAnswer}
 use Rattle.paper.proofs.Answers.{span-only, taken-only, step-only}
-use Rattle.sdd.specs.Face.{spanC, foundC, jobC, jobOf, begunC, steppedC, stepC, stepFileC, TakenSmall, SpanSmall, StepSmall}
+use Rattle.sdd.specs.Face.{spanC, foundC, jobC, jobOf, begunC, steppedC, toldOf, beside, stepC, stepFileC, TakenSmall, SpanSmall, StepSmall}
 use Rattle.sdd.specs.declared.face.CJob.{CJob}
 use Rattle.sdd.specs.declared.face.CStepped.{CStepped}
+use Rattle.sdd.specs.declared.jobs.Told.{Told}
 
 pub span-small : (a b : Span) → spanSays a ≡ spanSays b → SpanSmall b → SpanSmall a
 span-small a b e h = subst SpanSmall (sym (span-only a b e)) h
@@ -39,16 +44,66 @@ begun-face a b e h = rw (taken-only (a .answer) (b .answer) e, h)
 pub step-small-of : (a b : Step) → stepSays a ≡ stepSays b → StepSmall b → StepSmall a
 step-small-of a b e h = subst StepSmall (sym (step-only a b e)) h
 
-module _ (f scan : List ℕ) (c : CJob) (r : CStepped) where
+pub told-beside : (a : Step) (c : CJob) → beside (toldOf a) c ≡ steppedC a c
+told-beside (step.Wrote r count) c = refl
+told-beside (step.Saved r count) c = refl
+told-beside (step.Cleared r count) c = refl
+told-beside (step.Refused r) c = refl
+
+saves-back : (n : ℕ) → n ≤ 1 → cond (eqb n 1) 1 0 ≡ n
+saves-back zero h = refl
+saves-back (suc zero) h = refl
+saves-back (suc (suc n)) h = absurd (omega arith)
+
+either-job : (P : Job → Type 0) (t : Bool) (a b : Job) → P a → P b → P (cond t a b)
+either-job P true a b x y = x
+either-job P false a b x y = y
+
+-- the job that came, but for these
+abbrev changed : CJob → ℕ → ℕ → List ℕ → CJob
+changed c saves written boot =
+    record {
+      saves = saves;
+      slot = c .slot;
+      size = c .size;
+      span = c .span;
+      first = c .first;
+      written = written;
+      boot = boot;
+      about = c .about;
+    }
+
+-- with the count and the bootstrap of the job k
+abbrev onward : CJob → Job → CJob
+onward c k = changed c (c .saves) (k .written) (k .boot)
+
+module _ (f scan : List ℕ) (c : CJob) (r : CStepped) (t : Told) where
   -- a `saves` that is neither 0 nor 1
-  pub other-saves : 1 < c .saves → r ≡ steppedC (Refused Disagrees) c → (r ≡ stepC f scan c) × (f ≡ stepFileC f scan c)
+  pub other-saves : 1 < c .saves → t ≡ toldOf (step.Refused Disagrees) → r ≡ beside t c → (r ≡ stepC f scan c) × (f ≡ stepFileC f scan c)
   unfolding stepC stepFileC
-  other-saves h e = (rw (lt-ltb 1 (c .saves) h) e, rw (lt-ltb 1 (c .saves) h) refl)
+  other-saves h e q =
+      (rw (lt-ltb 1 (c .saves) h) (q ∙ ap (λ (x : Told). beside x c) e), rw (lt-ltb 1 (c .saves) h) refl)
+
+  -- a step changes nothing of its job but the count and the bootstrap
+  onward-job : c .saves ≤ 1 → onward c (stepJob f scan (jobOf c)) ≡ jobC (stepJob f scan (jobOf c))
+  unfolding stepJob
+  onward-job h =
+      let same : (n : ℕ) (b : List ℕ) → changed c (c .saves) n b ≡ changed c (cond (eqb (c .saves) 1) 1 0) n b =
+      λ n b. ap (λ (s : ℕ). changed c s n b) (sym (saves-back (c .saves) h)) in
+      either-job (λ k. onward c k ≡ jobC k) (agrees f scan (jobOf c)) _ _
+      (either-job (λ k. onward c k ≡ jobC k) (hasLeft (sizesOf f) scan (jobOf c)) _ _ (same _ _) (same _ _)) (same _ _)
 
   -- the step of the job that the numbers stand for
-  pub step-face : (g : List ℕ) (s : Stepped) (j : Job) (n : CJob) → c .saves ≤ 1 → j ≡ jobOf c → stepSays (s .answer) ≡ stepSays (stepAnswer f scan j)
-      → s .job ≡ stepJob f scan j → g ≡ stepFile f scan j → n ≡ jobC (s .job) → r ≡ steppedC (s .answer) n → (r ≡ stepC f scan c) × (g ≡ stepFileC f scan c)
+  pub step-face : (g : List ℕ) (s : Stepped) (j : Job) → c .saves ≤ 1 → j ≡ jobOf c → stepSays (s .answer) ≡ stepSays (stepAnswer f scan j)
+      → s .job ≡ stepJob f scan j → g ≡ stepFile f scan j → t ≡ toldOf (s .answer) → r ≡ beside t (onward c (s .job)) → (r ≡ stepC f scan c) × (g ≡ stepFileC f scan c)
   unfolding stepC stepFileC
-  step-face g s j n h e a b d k q =
+  step-face g s j h e a b d k q =
       let w : s .answer ≡ stepAnswer f scan j = step-only (s .answer) (stepAnswer f scan j) a in
-      (rw (le-ltb 1 (c .saves) h, ← e, ← w, ← b, ← k) q, rw (le-ltb 1 (c .saves) h, ← e) d)
+      let v : s .job ≡ stepJob f scan (jobOf c) = b ∙ ap (stepJob f scan) e in
+      let x : stepAnswer f scan j ≡ stepAnswer f scan (jobOf c) = ap (stepAnswer f scan) e in (
+        rw (le-ltb 1 (c .saves) h)
+            (q ∙ ap (λ (y : Told). beside y (onward c (s .job))) (k ∙ ap toldOf (w ∙ x)) ∙ ap (λ (y : Job). beside (toldOf (stepAnswer f scan (jobOf c))) (onward c y)) v
+            ∙ told-beside (stepAnswer f scan (jobOf c)) (onward c (stepJob f scan (jobOf c)))
+            ∙ ap (steppedC (stepAnswer f scan (jobOf c))) (onward-job h)),
+        rw (le-ltb 1 (c .saves) h, ← e) d,
+      )

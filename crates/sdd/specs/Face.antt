@@ -1,11 +1,8 @@
 -- The answers of the paper as the C face gives them: "`why` is {0, 0} where the call is accepted, .. every other field of a refused answer is 0".
 use Prim.Native.Nat.{ℕ, _≤_}
-use mathlib.Core.Bool.{Bool, true, false, cond}
+use mathlib.Core.Bool.{cond}
 use mathlib.Core.List.{List}
 use lib.Dec.{ltb, eqb}
-use lib.ListN.{length}
-use lib.Ieee.{Float}
-use Rattle.paper.specs.declared.sizes.Sizes.{Sizes}
 use Rattle.paper.specs.declared.refusal.Refusal.{Refusal}
 use Rattle.paper.specs.declared.refusal.Refusal.the-variants.{Disagrees}
 use Rattle.paper.specs.declared.answer.Opened.{Opened}
@@ -16,7 +13,6 @@ use Rattle.paper.specs.declared.answer.Span.{Span}
 use Rattle.paper.specs.declared.answer.Span.the-variants as span
 use Rattle.paper.specs.declared.answer.Taken.{Taken}
 use Rattle.paper.specs.declared.answer.Taken.the-variants as taken
-use Rattle.paper.specs.declared.entry.Entry.{Entry}
 use Rattle.paper.specs.declared.entry.Found.{Found}
 use Rattle.paper.specs.declared.job.Job.{Job}
 use Rattle.paper.specs.declared.job.Begun.{Begun}
@@ -33,6 +29,7 @@ use Rattle.sdd.specs.declared.face.CEntry.{CEntry}
 use Rattle.sdd.specs.declared.face.CJob.{CJob}
 use Rattle.sdd.specs.declared.face.CBegun.{CBegun}
 use Rattle.sdd.specs.declared.face.CStepped.{CStepped}
+use Rattle.sdd.specs.declared.jobs.Told.{Told}
 
 abbrev pub none : Why
 none = record { number = 0; value = 0 }
@@ -132,6 +129,19 @@ steppedC (step.Wrote r count) job = doneC 0 r count job
 steppedC (step.Saved r count) job = doneC 1 r count job
 steppedC (step.Cleared r count) job = doneC 2 r count job
 steppedC (step.Refused r) job = record { why = whyOf r; done = 0; wrote = 0; written = 0; job = job }
+
+-- the same without the job, and the two beside each other
+abbrev pub toldDone : ℕ → ℕ → ℕ → Told
+toldDone what r count = record { why = none; done = what; wrote = r; written = count }
+
+abbrev pub toldOf : Step → Told
+toldOf (step.Wrote r count) = toldDone 0 r count
+toldOf (step.Saved r count) = toldDone 1 r count
+toldOf (step.Cleared r count) = toldDone 2 r count
+toldOf (step.Refused r) = record { why = whyOf r; done = 0; wrote = 0; written = 0 }
+
+abbrev pub beside : Told → CJob → CStepped
+beside t job = record { why = t .why; done = t .done; wrote = t .wrote; written = t .written; job = job }
 
 -- "any other value: step answers 14"
 unfoldable pub stepC : List ℕ → List ℕ → CJob → CStepped

@@ -2,7 +2,7 @@
 ghost use mathlib.Core.Path.{_≡_};
 ghost use mathlib.Core.Bool.{cond};
 ghost use Rattle.paper.specs.Store.{blankOf, blankFile, saveOf, keepOf, clearOf};
-ghost use Rattle.sdd.specs.Face.{takenC, jobC, jobOf, begunC, doneC, steppedC, stepC, stepFileC, TakenSmall, StepSmall};
+ghost use Rattle.sdd.specs.Face.{takenC, jobC, jobOf, begunC, toldDone, toldOf, beside, stepC, stepFileC, TakenSmall, StepSmall};
 use super::face::CBegun;
 use super::face::CJob;
 use super::face::CStepped;
@@ -99,47 +99,72 @@ pub extern "C" fn sdd_clear(file: &[u8], slot: u64) -> CBegun
     begun(store::clear(file, slot as usize))
 }
 
-// A step's answer beside the job, in numbers.
-fn stepped(a: Step, c: CJob) -> CStepped
+// What a step says of itself, in numbers: the answer but for its job.
+pub struct Told {
+    pub why: Why,
+    pub done: u64,
+    pub wrote: u64,
+    pub written: u64,
+}
+
+fn answer(a: Step) -> Told
     requires { ⌜ StepSmall a ⌝ }
-    ensures { λ r. ⌜ r ≡ steppedC a c ⌝ }
+    ensures { λ r. ⌜ r ≡ toldOf a ⌝ }
 {
     match a {
-        Step::Wrote(record, count) => done(0, record, count, c),
-        Step::Saved(record, count) => done(1, record, count, c),
-        Step::Cleared(record, count) => done(2, record, count, c),
-        Step::Refused(r) => CStepped {
+        Step::Wrote(record, count) => done(0, record, count),
+        Step::Saved(record, count) => done(1, record, count),
+        Step::Cleared(record, count) => done(2, record, count),
+        Step::Refused(r) => Told {
             why: why(r),
             done: 0,
             wrote: 0,
             written: 0,
-            job: c,
         },
     }
 }
 
-fn done(what: u64, place: usize, count: usize, c: CJob) -> CStepped
-    ensures { λ r. ⌜ r ≡ doneC what place count c ⌝ }
+fn done(what: u64, place: usize, count: usize) -> Told
+    ensures { λ r. ⌜ r ≡ toldDone what place count ⌝ }
 {
-    CStepped {
+    Told {
         why: accepted(),
         done: what,
         wrote: place as u64,
         written: count as u64,
+    }
+}
+
+// The answer beside the job.
+fn stepped(t: Told, c: CJob) -> CStepped
+    ensures { λ r. ⌜ r ≡ beside t c ⌝ }
+{
+    let why = t.why;
+    CStepped {
+        why,
+        done: t.done,
+        wrote: t.wrote,
+        written: t.written,
         job: c,
     }
 }
 
+// The job that goes back is the one that came but for its count and bootstrap: all else of it is copied once.
 #[no_mangle]
 pub extern "C" fn sdd_step(file: &mut [u8], scan: &[u8], c: CJob) -> CStepped
     ensures { λ r. ⌜ r ≡ stepC (now (file .entry)) (now (scan .entry)) c ⌝ }
     ensures { λ r. ⌜ now (file .exit) ≡ stepFileC (now (file .entry)) (now (scan .entry)) c ⌝ }
 {
     if 1 < c.saves {
-        return stepped(Step::Refused(Refusal::Disagrees), c);
+        return stepped(answer(Step::Refused(Refusal::Disagrees)), c);
     }
     let s = store::step(file, scan, job(c));
     let a = s.answer;
+    let t = answer(a);
     let j = s.job;
-    stepped(a, numbers(j))
+    let boot = j.boot;
+    let mut d = c;
+    d.boot = boot;
+    d.written = j.written as u64;
+    stepped(t, d)
 }

@@ -1,6 +1,6 @@
 -- The groups of tests of refusal 14 together are the definition's, and what agreement gives the writes.
 use Prim.Native.Nat.{ℕ, _+_, _*_, _/_, _≤_, _<_}
-use mathlib.Core.Path.{_≡_, refl, sym, ap, subst}
+use mathlib.Core.Path.{_≡_, sym, ap, subst}
 use mathlib.Core.Bool.{Bool, true, false, cond}
 use mathlib.Core.Logic.{⊎-elim}
 use mathlib.Core.List.{List}
@@ -8,28 +8,22 @@ use native.Mathlib.Omega.{arith}
 use native.Mathlib.Nat.{le-trans, mul-le-mul, mul-le-mul-right, div-mul-le-self}
 use borrow.Author.Tests.{lt-ltb, le-leb, eq-eqb, ltb-true, leb-true, eqb-true}
 use lib.ListN.{length}
-use Rattle.lent.proofs.Lists.{All, all-true, true-all, true≢false, either}
+use Rattle.lent.proofs.Lists.{All, all-true, true-all, true≢false, either, asked, answered}
 use Rattle.lent.proofs.Sames.{same-true, true-same}
 use Rattle.paper.specs.declared.sizes.Sizes.{Sizes}
 use Rattle.paper.specs.declared.job.Job.{Job}
-use Rattle.paper.specs.Sizes.{roomOf, Shaped}
+use Rattle.paper.specs.Sizes.{sizesOf, roomOf, Shaped}
 use Rattle.paper.specs.Index.{Booted}
 use Rattle.paper.specs.Store.{recordsFor, countOf}
+use Rattle.paper.specs.Look.{slotTests}
 use Rattle.paper.specs.Step.{agrees}
+use Rattle.paper.proofs.Opening.{range-facts, facts-range}
 use Rattle.paper.proofs.Sizing.{less, home-in, slotted}
 use Rattle.paper.proofs.Writes.{some-record, row-saves}
 use Rattle.paper.proofs.Agreement.{Agreeing, agreeing, disagreeing}
-use Rattle.steps.specs.Tests.{fileTests, sameFile, slotTests, hasSlot, fitTests, saveFits, recordsFit}
+use Rattle.steps.specs.Tests.{fileTests, sameFile, bootTests, bootHolds, hasSlot, fitTests, saveFits, recordsFit}
 use Rattle.writes.specs.Inside.{Placed, Homed, Rowed}
 use Rattle.writes.proofs.Counts.{count-save, count-clear}
-
--- a group that is asked of a save alone
-asked : (b t : Bool) → cond b t true ≡ true → b ≡ true → t ≡ true
-asked b t e s = rw s at e
-
-answered : (b t : Bool) → (b ≡ true → t ≡ true) → cond b t true ≡ true
-answered true t h = h refl
-answered false t h = refl
 
 module _ (z : Sizes) (len : ℕ) (j : Job) where
   pub fits-save : j .saves ≡ true → saveFits z len j ≡ recordsFit z len j
@@ -42,6 +36,18 @@ module _ (z : Sizes) (len : ℕ) (j : Job) where
   few-records r =
       ⊎-elim (λ e. let t = all-true (fitTests z len j) (asked _ _ r e) in omega (arith, leb-true (j .first + countOf z j) (roomOf z len + 1) (t .1 .1 .0)))
       (λ e. omega (arith, count-clear z j e)) (either (j .saves))
+
+-- refusals 1 to 5, as a fact and as a test
+module _ (f : List ℕ) (z : Sizes) where
+  pub holds-boot : z ≡ sizesOf f → bootHolds f z ≡ true → Booted f z
+  unfolding bootHolds
+  holds-boot e h =
+      let t = all-true (bootTests f z) h in
+      record { reads = sym e; long = leb-true _ _ (t .0); version = eqb-true _ _ (t .1 .0); ranged = range-facts z (t .1 .1 .0); held = leb-true _ _ (t .1 .1 .1 .0) }
+
+  boot-holds : Booted f z → bootHolds f z ≡ true
+  unfolding bootHolds
+  boot-holds b = true-all (bootTests f z) (le-leb _ _ (b .long), (eq-eqb _ _ (b .version), (facts-range z (b .ranged), (le-leb _ _ (b .held), tt))))
 
 module _ (f scan : List ℕ) (j : Job) (z : Sizes) where
   -- each group holds where job and file agree
@@ -61,12 +67,15 @@ module _ (f scan : List ℕ) (j : Job) (z : Sizes) where
       let h : 0 < j .size = omega (arith, a .filled e, a .size) in
       true-all (fitTests z (length f) j) (lt-ltb _ _ h, (lt-ltb _ _ (a .past e), (le-leb _ _ (a .within e), tt))))
 
-  module _ (b : Booted f z) where
+  module _ (reads : z ≡ sizesOf f) where
     refused : (Agreeing f scan j z → ⊥) → false ≡ agrees f scan j
-    refused never = sym (disagreeing f scan j (λ a. never (subst (λ (y : Sizes). Agreeing f scan j y) (b .reads) a)))
+    refused never = sym (disagreeing f scan j (λ a. never (subst (λ (y : Sizes). Agreeing f scan j y) (sym reads) a)))
 
     pub other-file : sameFile f scan j ≡ false → false ≡ agrees f scan j
     other-file e = refused (λ a. true≢false (file-same a) e)
+
+    pub other-boot : bootHolds f z ≡ false → false ≡ agrees f scan j
+    other-boot e = refused (λ a. true≢false (boot-holds f z (a .booted)) e)
 
     pub other-slot : hasSlot z (j .slot) ≡ false → false ≡ agrees f scan j
     other-slot e = refused (λ a. true≢false (slot-there a) e)
@@ -78,16 +87,16 @@ module _ (f scan : List ℕ) (j : Job) (z : Sizes) where
     too-many h = refused (λ a. omega (arith, a .left))
 
     -- and they are all of them
-    pub all-agree : sameFile f scan j ≡ true → hasSlot z (j .slot) ≡ true → recordsFit z (length f) j ≡ true → j .written ≤ countOf z j + 2
-        → true ≡ agrees f scan j
+    pub all-agree : sameFile f scan j ≡ true → bootHolds f z ≡ true → hasSlot z (j .slot) ≡ true → recordsFit z (length f) j ≡ true
+        → j .written ≤ countOf z j + 2 → true ≡ agrees f scan j
     unfolding sameFile hasSlot recordsFit saveFits
-    all-agree p q r h =
+    all-agree p b q r h =
         let t = all-true (fileTests f scan j) p in
         let u = all-true (slotTests z (j .slot)) q in
         let size : length scan ≡ j .size = eqb-true _ _ (t .0) in
         let v : j .saves ≡ true → All (fitTests z (length f) j) = λ e. all-true (fitTests z (length f) j) (asked _ _ r e) in
         sym (agreeing f scan j z (record {
-          booted = b;
+          booted = holds-boot f z reads b;
           size = size;
           span = eqb-true _ _ (t .1 .0);
           begun = same-true _ _ (t .1 .1 .0);
@@ -118,7 +127,6 @@ module _ (f scan : List ℕ) (j : Job) (z : Sizes) where
         record {
           held = record { ranged = a .booted .ranged; slot = slotted (a .booted) (j .slot) (a .low) (a .high); placed = placed };
           within = home-in (a .booted) (j .slot) (a .low) (a .high);
-          few = omega (arith, a .left, count-small);
         }
 
     -- the data record at the job's place

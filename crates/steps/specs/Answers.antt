@@ -1,5 +1,5 @@
--- What a step answers besides its write, and the places of the writes after the data records.
-use Prim.Native.Nat.{ℕ, _+_, _≤_}
+-- What a step answers besides its write, and that a write is left.
+use Prim.Native.Nat.{ℕ, _+_, _<_}
 use mathlib.Core.Path.{_≡_}
 use Rattle.paper.specs.declared.sizes.Sizes.{Sizes}
 use Rattle.paper.specs.declared.refusal.Refusal.the-variants.{Disagrees}
@@ -20,8 +20,7 @@ handedOn (opened.Refused r) = Refused r
 abbrev pub disagreed : Job → Stepped
 disagreed j = record { answer = Refused Disagrees; job = j }
 
--- no data record is left, and record 1 and the entry are the writes at places `first` and `second`
-pub record Ends (z : Sizes) (j : Job) (first second : ℕ) : Type 0 where
-  pub boot : first ≡ countOf z j
-  pub entry : second ≡ countOf z j + 1
-  pub past : countOf z j ≤ j .written
+-- of the job's k data records, record 1 and the entry, one is left to write
+pub record Left (z : Sizes) (j : Job) (k : ℕ) : Type 0 where
+  pub rows : k ≡ countOf z j
+  pub some : j .written < k + 2

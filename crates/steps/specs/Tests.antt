@@ -8,7 +8,8 @@ use Rattle.lent.specs.Lists.{all}
 use Rattle.lent.specs.Same.{same}
 use Rattle.paper.specs.declared.sizes.Sizes.{Sizes}
 use Rattle.paper.specs.declared.job.Job.{Job}
-use Rattle.paper.specs.Sizes.{capacityOf, roomOf}
+use Rattle.paper.specs.Look.{slotTests}
+use Rattle.paper.specs.Sizes.{versionOf, roomOf, bytesOf, inRange}
 use Rattle.paper.specs.Store.{countOf}
 
 -- the lengths of scan and file, and the first 32 bytes, are the job's
@@ -18,10 +19,14 @@ fileTests f scan j = eqb (length scan) (j .size) ∷ eqb (length f) (j .span) �
 unfoldable pub sameFile : List ℕ → List ℕ → Job → Bool
 sameFile f scan j = all (fileTests f scan j)
 
--- the slot lies in 1 to capacity
-abbrev pub slotTests : Sizes → ℕ → List Bool
-slotTests z s = leb 1 s ∷ leb s (capacityOf z) ∷ []
+-- none of 1 to 5 is fired
+abbrev pub bootTests : List ℕ → Sizes → List Bool
+bootTests f z = leb 512 (length f) ∷ eqb (versionOf f) 1 ∷ inRange z ∷ leb (bytesOf z) (length f) ∷ []
 
+unfoldable pub bootHolds : List ℕ → Sizes → Bool
+bootHolds f z = all (bootTests f z)
+
+-- the slot lies in 1 to capacity
 unfoldable pub hasSlot : Sizes → ℕ → Bool
 hasSlot z s = all (slotTests z s)
 

@@ -3,10 +3,9 @@ use paper::job::Job;
 use paper::sizes::Sizes;
 use writes::count;
 ghost use mathlib.Core.Path.{_≡_};
-ghost use Rattle.paper.specs.Sizes.{Shaped};
-ghost use Rattle.paper.specs.Index.{Booted};
+ghost use Rattle.paper.specs.Sizes.{sizesOf, Shaped};
 ghost use Rattle.paper.specs.Step.{agrees};
-ghost use Rattle.steps.specs.Tests.{sameFile, hasSlot, saveFits, recordsFit};
+ghost use Rattle.steps.specs.Tests.{sameFile, bootHolds, hasSlot, saveFits, recordsFit};
 
 // The lengths of scan and file, and the first 32 bytes, are the job's.
 fn same_file(file: &[u8], scan: &[u8], j: Job) -> bool
@@ -20,6 +19,25 @@ fn same_file(file: &[u8], scan: &[u8], j: Job) -> bool
     }
     let b = j.boot;
     if !lent::compare::same(lent::part::part(file, 0, 32), &b) {
+        return false;
+    }
+    true
+}
+
+// None of 1 to 5 is the file's, whichever it would be.
+fn boot_holds(file: &[u8], z: Sizes) -> bool
+    ensures { λ r. ⌜ r ≡ bootHolds (now (file .entry)) z ⌝ }
+{
+    if file.len() < 512 {
+        return false;
+    }
+    if lent::read::word32(file, 28) != 1 {
+        return false;
+    }
+    if !entries::boot::in_range(z) {
+        return false;
+    }
+    if file.len() < (z.n + z.d) * z.l {
         return false;
     }
     true
@@ -71,12 +89,15 @@ fn records_fit(z: Sizes, len: usize, j: Job) -> bool
     true
 }
 
-// The bootstrap was judged before: 1 to 5.
+// All of it; z is what the file's bootstrap says.
 pub fn agree(file: &[u8], scan: &[u8], z: Sizes, j: Job) -> bool
-    requires { ⌜ Booted (now file) z ⌝ }
+    requires { ⌜ z ≡ sizesOf (now file) ⌝ }
     ensures { λ r. ⌜ r ≡ agrees (now (file .entry)) (now (scan .entry)) j ⌝ }
 {
     if !same_file(file, scan, j) {
+        return false;
+    }
+    if !boot_holds(file, z) {
         return false;
     }
     if !has_slot(z, j.slot) {

@@ -1,18 +1,19 @@
 //! One step of a job: refusal 14, then the write at the job's place in its list or the confirmation.
-use paper::answer::Opened;
 use paper::job::Job;
 use paper::job::Step;
 use paper::job::Stepped;
 use paper::refusal::Refusal;
 use paper::sizes::Sizes;
+use writes::boot;
 use writes::count;
 use writes::write;
 ghost use mathlib.Core.Path.{_≡_};
 ghost use mathlib.Core.Bool.{true};
-ghost use Prim.Native.Nat.{_+_};
+ghost use lib.ListN.{take};
 ghost use Rattle.paper.specs.Index.{Booted};
 ghost use Rattle.paper.specs.Step.{agrees, stepFile, steppedOf};
-ghost use Rattle.steps.specs.Answers.{Ends, disagreed};
+ghost use Rattle.writes.specs.Inside.{wroteOne};
+ghost use Rattle.steps.specs.Answers.{Left, disagreed};
 
 pub mod agree;
 pub mod confirm;
@@ -27,25 +28,25 @@ fn refused(j: Job) -> Stepped
     }
 }
 
-// After the data records: record 1 at place `first` of the list, the entry at place `second`, and past them the confirmation.
-fn finish(file: &mut [u8], scan: &[u8], z: Sizes, j: Job, first: usize, second: usize) -> Stepped
+// The write at the job's place in its list, of which the first k are the data records. It answers the record that it wrote.
+fn write_next(file: &mut [u8], scan: &[u8], z: Sizes, j: Job, k: usize) -> usize
     requires { ⌜ Booted (now file) z ⌝ }
     requires { ⌜ agrees (now file) (now scan) j ≡ true ⌝ }
-    requires { ⌜ Ends z j first second ⌝ }
-    ensures { λ r. ⌜ r ≡ steppedOf (now (file .entry)) (now (scan .entry)) j ⌝ }
+    requires { ⌜ Left z j k ⌝ }
+    ensures { λ r. ⌜ wroteOne r j (take 32 (now (file .exit))) ≡ steppedOf (now (file .entry)) (now (scan .entry)) j ⌝ }
     ensures { λ _. ⌜ now (file .exit) ≡ stepFile (now (file .entry)) (now (scan .entry)) j ⌝ }
 {
-    if j.written == first {
+    if j.written < k {
+        return write::write_data(file, scan, z, j);
+    }
+    if j.written == k {
         return write::write_boot(file, z, j);
     }
-    if j.written == second {
-        return write::write_entry(file, z, j);
-    }
-    let answer = confirm::confirm(file, scan, j);
-    Stepped { answer, job: j }
+    write::write_entry(file, z, j)
 }
 
-// The write at the job's place, or the confirmation. A step that writes judges no index.
+// One write, or past the last the confirmation. A step that writes judges no index. The bootstrap that the job then expects
+// is the file's, whichever record was written: from one place, its 32 bytes are moved and not taken apart.
 fn next(file: &mut [u8], scan: &[u8], z: Sizes, j: Job) -> Stepped
     requires { ⌜ Booted (now file) z ⌝ }
     requires { ⌜ agrees (now file) (now scan) j ≡ true ⌝ }
@@ -53,10 +54,13 @@ fn next(file: &mut [u8], scan: &[u8], z: Sizes, j: Job) -> Stepped
     ensures { λ _. ⌜ now (file .exit) ≡ stepFile (now (file .entry)) (now (scan .entry)) j ⌝ }
 {
     let k = count::records(z, j);
-    if j.written < k {
-        return write::write_data(file, scan, z, j);
+    if k + 2 <= j.written {
+        let answer = confirm::confirm(file, scan, j);
+        return Stepped { answer, job: j };
     }
-    finish(file, scan, z, j, k, k + 1)
+    let r = write_next(file, scan, z, j, k);
+    let b = boot::head(file);
+    write::wrote(r, j, b)
 }
 
 // Refusal 14 with every one of its causes, then one write or the confirmation.
@@ -64,10 +68,7 @@ pub fn stepped(file: &mut [u8], scan: &[u8], j: Job) -> Stepped
     ensures { λ r. ⌜ r ≡ steppedOf (now (file .entry)) (now (scan .entry)) j ⌝ }
     ensures { λ _. ⌜ now (file .exit) ≡ stepFile (now (file .entry)) (now (scan .entry)) j ⌝ }
 {
-    let o = index::boot::boot(file);
-    let Opened::Opens(z) = o else {
-        return refused(j);
-    };
+    let z = entries::boot::sizes_at(file);
     if !agree::agree(file, scan, z, j) {
         return refused(j);
     }

@@ -14,10 +14,10 @@ use Rattle.paper.specs.declared.refusal.Refusal.the-variants.{BadBlank}
 use Rattle.paper.specs.declared.answer.Taken.{Taken}
 use Rattle.paper.specs.declared.answer.Taken.the-variants.{Accepted, Refused}
 use Rattle.paper.specs.Sizes.{bootBytes, Shaped}
-use Rattle.paper.specs.Store.{blankSizes, blankOf, blankFile}
+use Rattle.paper.specs.Store.{blankTests, blankSizes, blankOf, blankFile}
 use Rattle.paper.proofs.Opening.{shaped-facts}
 use Rattle.paper.proofs.Sizing.{head-long}
-use Rattle.store.specs.Blank.{blankTests, blankFits}
+use Rattle.store.specs.Blank.{blankFits}
 use Rattle.writes.specs.Inside.{Narrow}
 
 -- how many bytes N records are

@@ -1,6 +1,6 @@
--- A file that was judged and the row that holds its runs: what the calls on the row ask for, and what their answers say of the file.
-use Prim.Native.Nat.{ℕ, _≤_}
-use mathlib.Core.Path.{_≡_, sym, _∙_, ap}
+-- A file that was judged, its row and its marks: what the calls on them ask for, and what their answers say of the file.
+use Prim.Native.Nat.{ℕ, _*_, _≤_}
+use mathlib.Core.Path.{_≡_, sym, _∙_, ap, subst}
 use mathlib.Core.Bool.{true}
 use mathlib.Core.List.{List}
 use native.Mathlib.Omega.{arith}
@@ -8,18 +8,19 @@ use borrow.Author.Tests.{leb-true}
 use lib.ListN.{length}
 use Rattle.lent.proofs.Lists.{all-true}
 use Rattle.paper.specs.declared.sizes.Sizes.{Sizes}
-use Rattle.paper.specs.declared.sizes.Run.{Run}
 use Rattle.paper.specs.declared.answer.Opened.{Opened}
 use Rattle.paper.specs.declared.answer.Opened.the-variants.{Opens}
 use Rattle.paper.specs.Sizes.{capacityOf, Shaped}
-use Rattle.paper.specs.Index.{runOf, openOf}
+use Rattle.paper.specs.Index.{runOf, openOf, Booted}
 use Rattle.paper.specs.Store.{recordsFor, freePlace, emptySlot}
-use Rattle.paper.proofs.Opening.{open-sound}
-use Rattle.index.specs.Row.{rowRun, InRow, Judged}
-use Rattle.index.proofs.Rows.{laid-same}
-use Rattle.room.specs.Passing.{Sought}
-use Rattle.room.proofs.Freeing.{empty-row, free-row}
-use Rattle.steps.specs.Tests.{slotTests, hasSlot}
+use Rattle.paper.proofs.Opening.{open-sound, index-same}
+use Rattle.entries.specs.Row.{rowRun, Entry}
+use Rattle.index.specs.Judging.{Looked}
+use Rattle.index.proofs.Answers.{index-open}
+use Rattle.room.specs.Passing.{Sought, Hints, Vacant}
+use Rattle.room.proofs.Freeing as room
+use Rattle.paper.specs.Look.{slotTests}
+use Rattle.steps.specs.Tests.{hasSlot}
 use Rattle.store.specs.Beginning.{Rowing}
 
 pub opens-shape : (f : List ℕ) {z : Sizes} → openOf f ≡ Opens z → Shaped z
@@ -28,42 +29,31 @@ opens-shape f o = open-sound o .booted .ranged .shape
 pub opens-long : (f : List ℕ) {z : Sizes} → openOf f ≡ Opens z → 32 ≤ length f
 opens-long f o = omega (arith, open-sound o .booted .long)
 
-pub row-kept : (f row : List ℕ) (o : Opened) (z : Sizes) → Judged f row o → o ≡ Opens z → 8192 ≤ length row → Rowing f z row
-row-kept f row o z j q h = record { opens = sym (j .is) ∙ q; runs = j .runs z q; wide = h }
+-- the judgement handed back the sizes that it was given
+pub rowing : (f row ws : List ℕ) (z y : Sizes) (o : Opened) → Booted f z → Looked f z row ws o → o ≡ Opens y → 2 * z .u ≤ length row → Rowing f z row ws
+rowing f row ws z y o b l q w =
+    let e : o ≡ Opens z = q ∙ ap Opens (sym (index-same z y (runOf f z) (sym (l .is) ∙ q))) in
+    record { opens = sym (index-open f z o b (l .is)) ∙ e; looked = subst (Looked f z row ws) e l; wide = w }
 
-module _ (f : List ℕ) (z : Sizes) (row : List ℕ) (h : Rowing f z row) where
-  used : z .u ≤ capacityOf z
-  used = open-sound (h .opens) .booted .ranged .used
+-- a slot of the index
+pub has-entry : (f : List ℕ) {z : Sizes} → openOf f ≡ Opens z → (slot : ℕ) → hasSlot z slot ≡ true → Entry f z slot
+unfolding hasSlot
+has-entry f {z} o slot there =
+    let t = all-true (slotTests z slot) there in
+    record { booted = open-sound o .booted; low = leb-true 1 slot (t .0); high = leb-true slot (capacityOf z) (t .1 .0) }
 
+module _ (f : List ℕ) (z : Sizes) (row ws : List ℕ) (h : Rowing f z row ws) where
   pub sought : (k : ℕ) → (1 ≤ k) × (k ≤ 65536) → Sought row z k
-  sought k b =
-      let s = open-sound (h .opens) in
-      record {
-        wide = h .wide;
-        ranged = s .booted .ranged;
-        laid = laid-same z (rowRun row) (runOf f z) used (h .runs .run) (s .laid);
-        some = b .0;
-        few = b .1;
-      }
+  sought k b = room.sought f z row (h .looked .runs) (open-sound (h .opens)) (h .wide) k (b .0) (b .1)
+
+  pub hints : Hints ws z (rowRun row)
+  hints =
+      room.hints f z row (h .looked .runs) ws
+      (record { held = λ m x a b. let g = h .looked .shows m .only x a b in record { slot = g .slot; low = g .low; high = g .high; from = g .from; to = g .to } })
 
   pub free-there : (first len k size : ℕ) → first ≡ freePlace z len (rowRun row) k → k ≡ recordsFor z size
       → first ≡ freePlace z len (runOf f z) (recordsFor z size)
-  free-there first len k size p e = p ∙ free-row f z row used (h .runs) len k ∙ ap (freePlace z len (runOf f z)) e
+  free-there first len k size p e = p ∙ room.free-row f z row (h .looked .runs) len k ∙ ap (freePlace z len (runOf f z)) e
 
-  pub empty-there : (slot : ℕ) → slot ≡ emptySlot z (rowRun row) → slot ≡ emptySlot z (runOf f z)
-  empty-there slot p = p ∙ empty-row f z row used (h .runs)
-
-  -- a slot of the index
-  module _ (slot : ℕ) (there : hasSlot z slot ≡ true) where
-    pub in-row : InRow row slot
-    unfolding hasSlot
-    in-row =
-        let t = all-true (slotTests z slot) there in
-        let s = opens-shape f (h .opens) in
-        record { wide = h .wide; low = leb-true 1 slot (t .0); high = omega (arith, leb-true slot (capacityOf z) (t .1 .0)) }
-
-    pub run-there : (a : Run) → a ≡ rowRun row slot → a ≡ runOf f z slot
-    unfolding hasSlot
-    run-there a p =
-        let t = all-true (slotTests z slot) there in
-        p ∙ h .runs .run slot (leb-true 1 slot (t .0)) (leb-true slot (capacityOf z) (t .1 .0))
+  pub empty-there : (slot : ℕ) → Vacant row z slot → slot ≡ emptySlot z (runOf f z)
+  empty-there slot v = room.empty-row f z row (h .looked .runs) (open-sound (h .opens)) slot v

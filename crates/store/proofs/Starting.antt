@@ -1,5 +1,5 @@
 -- Save, keep and clear: each answer is the definition's, check by check.
-use Prim.Native.Nat.{ℕ, _+_, _-_, _≤_, _<_}
+use Prim.Native.Nat.{ℕ, _-_, _≤_, _<_}
 use mathlib.Core.Path.{_≡_, refl, sym, _∙_, ap}
 use mathlib.Core.Bool.{Bool, true, false, not}
 use mathlib.Core.List.{List, [], _∷_, _++_}
@@ -26,7 +26,9 @@ use Rattle.paper.proofs.Opening.{open-reads, then-refused, then-opens}
 use Rattle.paper.proofs.Rules.{keeps-lengths}
 use Rattle.paper.proofs.Reasons.{no-reason}
 use Rattle.steps.specs.Tests.{hasSlot}
-use Rattle.store.specs.Beginning.{refusedBy, savesAt, placedOf}
+use Rattle.store.specs.declared.judged.Goal.{Goal}
+use Rattle.store.specs.declared.judged.Goal.the-variants.{Slot, LowestEmpty}
+use Rattle.store.specs.Beginning.{begunOf, refusedBy, savesAt, placedOf}
 use Rattle.writes.proofs.Counts.{records-some}
 
 -- a check that fires, or is passed
@@ -139,6 +141,10 @@ module _ (f scan about : List ℕ) (o : Opened) (is : o ≡ openOf f) (x : Begun
     keep-on e p =
         p ∙ ap (λ (s : ℕ). judge refused (scanChecks f scan) (accepted (saveJob f s scan about))) slot-is
         ∙ passes-first _ _ (scanChecks f scan) keepJob (ne-eqb _ _ (λ n. e (slot-is ∙ n))) ∙ on f o is keepChecks keepJob z q
+
+pub goal-out : (f : List ℕ) (g : Goal) (scan about : List ℕ) (o : Opened) → o ≡ openOf f → (x : Begun) (r : Refusal) → o ≡ Refused r → x ≡ refusedBy o → x ≡ begunOf f g scan about
+goal-out f (Slot s) scan about o is x r q p = save-out f s scan about o is x r q p
+goal-out f LowestEmpty scan about o is x r q p = keep-out f scan about o is x r q p
 
 module _ (f : List ℕ) (slot : ℕ) (o : Opened) (is : o ≡ openOf f) (x : Begun) where
   abbrev clearChecks : List (Check Refusal)

@@ -1,5 +1,5 @@
 -- What the inner functions of save, keep and clear require and answer.
-use Prim.Native.Nat.{ℕ, _≤_}
+use Prim.Native.Nat.{ℕ, _*_, _≤_}
 use mathlib.Core.Path.{_≡_}
 use mathlib.Core.Bool.{true}
 use mathlib.Core.List.{List}
@@ -11,16 +11,17 @@ use Rattle.paper.specs.declared.answer.Opened.{Opened}
 use Rattle.paper.specs.declared.answer.Opened.the-variants.{Opens, Refused}
 use Rattle.paper.specs.declared.job.Job.{Job}
 use Rattle.paper.specs.declared.job.Begun.{Begun}
-use Rattle.paper.specs.Sizes.{capacityOf}
 use Rattle.paper.specs.Index.{openOf}
-use Rattle.paper.specs.Store.{refused, accepted, scanChecks, saveJob}
-use Rattle.index.specs.Row.{Runs}
+use Rattle.paper.specs.Store.{refused, accepted, scanChecks, saveJob, saveOf, keepOf}
+use Rattle.index.specs.Judging.{Looked}
+use Rattle.store.specs.declared.judged.Goal.{Goal}
+use Rattle.store.specs.declared.judged.Goal.the-variants.{Slot, LowestEmpty}
 
--- a file that opens, and the row that holds its runs
-pub record Rowing (f : List ℕ) (z : Sizes) (row : List ℕ) : Type 0 where
+-- a file that opens, the row that holds its runs, and the marks that may show their records
+pub record Rowing (f : List ℕ) (z : Sizes) (row ws : List ℕ) : Type 0 where
   pub opens : openOf f ≡ Opens z
-  pub runs : Runs f z row (capacityOf z)
-  pub wide : 8192 ≤ length row
+  pub looked : Looked f z row ws (Opens z)
+  pub wide : 2 * z .u ≤ length row
 
 -- a refusal of the file's, as the beginning's
 abbrev pub refusedBy : Opened → Begun
@@ -35,3 +36,8 @@ savesAt f slot size first about =
 -- 11, then 13, then the job
 unfoldable pub placedOf : List ℕ → ℕ → List ℕ → List ℕ → Begun
 placedOf f slot scan about = judge refused (scanChecks f scan) (accepted (saveJob f slot scan about))
+
+-- a save's beginning, or a keep's
+abbrev pub begunOf : List ℕ → Goal → List ℕ → List ℕ → Begun
+begunOf f (Slot s) scan about = saveOf f s scan about
+begunOf f LowestEmpty scan about = keepOf f scan about

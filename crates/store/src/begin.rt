@@ -1,4 +1,4 @@
-//! Save, keep and clear: judged, refused in order, and a job handed back. Nothing is changed yet.
+//! What begins a job: refused in order, or a job handed back. Nothing is changed yet.
 use paper::answer::Opened;
 use paper::answer::Ruled;
 use paper::answer::Taken;
@@ -32,7 +32,7 @@ fn refused(r: Refusal) -> Begun
 }
 
 // A refusal of the file's, handed on. (A file that opens is not.)
-fn handed_on(o: Opened) -> Begun
+pub fn handed_on(o: Opened) -> Begun
     ensures { λ b. ⌜ b ≡ refusedBy o ⌝ }
 {
     match o {
@@ -94,8 +94,16 @@ fn clear_job(file: &[u8], slot: usize) -> Begun
 }
 
 // 11, then 13: the rules over the scan, and the lowest free place, to which the slot's present scan is not free.
-fn place(file: &[u8], row: &[u32], z: Sizes, slot: usize, scan: &[u8], about: [u8; 54]) -> Begun
-    requires { ⌜ Rowing (now file) z (now row) ⌝ }
+fn place(
+    file: &[u8],
+    row: &[u32],
+    marks: &[u64],
+    z: Sizes,
+    slot: usize,
+    scan: &[u8],
+    about: [u8; 54],
+) -> Begun
+    requires { ⌜ Rowing (now file) z (now row) (now marks) ⌝ }
     ensures { λ b. ⌜ b ≡ placedOf (now (file .entry)) slot (now (scan .entry)) about ⌝ }
 {
     let broken = reason(scan::rules::judge(scan, true));
@@ -103,57 +111,63 @@ fn place(file: &[u8], row: &[u32], z: Sizes, slot: usize, scan: &[u8], about: [u
         return refused(Refusal::BadScan(broken));
     }
     let k = writes::count::records_for(z, scan.len());
-    let first = room::lowest_free(row, z, file.len(), k);
+    let first = room::lowest_free(row, marks, z, file.len(), k);
     if first == 0 {
         return refused(Refusal::NoRoom);
     }
     save_job(file, slot, scan.len(), first, about)
 }
 
-// The index is decoded once: the judgement leaves its runs in the row, in which the place is found.
-pub fn saved(file: &[u8], slot: usize, scan: &[u8], about: [u8; 54]) -> Begun
+// A save to a slot that the crew names: 9, then the place.
+pub fn save_at(
+    file: &[u8],
+    row: &[u32],
+    marks: &[u64],
+    z: Sizes,
+    slot: usize,
+    scan: &[u8],
+    about: [u8; 54],
+) -> Begun
+    requires { ⌜ Rowing (now file) z (now row) (now marks) ⌝ }
     ensures { λ b. ⌜ b ≡ saveOf (now (file .entry)) slot (now (scan .entry)) about ⌝ }
 {
-    let mut row = [0u32; 8192];
-    let o = index::judged(file, &mut row);
-    let Opened::Opens(z) = o else {
-        return handed_on(o);
-    };
     if !steps::agree::has_slot(z, slot) {
         return refused(Refusal::NoSuchSlot);
     }
-    place(file, &row, z, slot, scan, about)
+    place(file, row, marks, z, slot, scan, about)
 }
 
-// 12 in place of 9.
-pub fn kept(file: &[u8], scan: &[u8], about: [u8; 54]) -> Begun
+// A save to the lowest empty slot: 12 in place of 9.
+pub fn keep_at(
+    file: &[u8],
+    row: &[u32],
+    marks: &[u64],
+    z: Sizes,
+    scan: &[u8],
+    about: [u8; 54],
+) -> Begun
+    requires { ⌜ Rowing (now file) z (now row) (now marks) ⌝ }
     ensures { λ b. ⌜ b ≡ keepOf (now (file .entry)) (now (scan .entry)) about ⌝ }
 {
-    let mut row = [0u32; 8192];
-    let o = index::judged(file, &mut row);
-    let Opened::Opens(z) = o else {
-        return handed_on(o);
-    };
-    let slot = room::lowest_empty(&row, z);
+    let slot = room::lowest_empty(row, z);
     if slot == 0 {
         return refused(Refusal::NoEmptySlot);
     }
-    place(file, &row, z, slot, scan, about)
+    place(file, row, marks, z, slot, scan, about)
 }
 
 // 10 in place of 11 and 13.
 pub fn cleared(file: &[u8], slot: usize) -> Begun
     ensures { λ b. ⌜ b ≡ clearOf (now (file .entry)) slot ⌝ }
 {
-    let mut row = [0u32; 8192];
-    let o = index::judged(file, &mut row);
+    let o = index::judge(file);
     let Opened::Opens(z) = o else {
         return handed_on(o);
     };
     if !steps::agree::has_slot(z, slot) {
         return refused(Refusal::NoSuchSlot);
     }
-    if index::entry::empty(index::row::run_in(&row, slot)) {
+    if entries::entry::empty(entries::row::run_at(file, z, slot)) {
         return refused(Refusal::EmptySlot);
     }
     clear_job(file, slot)

@@ -1,4 +1,5 @@
 //! Blank, and a save, keep or clear, record by record: 01's calls that change a file. Each is a thin one over an inner function, whose contract is the plain equation.
+use judged::Goal;
 use paper::answer::Taken;
 use paper::job::Begun;
 use paper::job::Job;
@@ -10,6 +11,7 @@ ghost use Rattle.paper.specs.Step.{stepFile, stepJob, stepAnswer};
 
 mod begin;
 mod blanks;
+mod judged;
 
 // N records of L bytes, with M bytes to an index entry, or 16.
 pub fn blank(file: &mut [u8], n: usize, l: usize, m: usize) -> Taken
@@ -24,7 +26,7 @@ pub fn save(file: &[u8], slot: usize, scan: &[u8], about: &[u8; 54]) -> Begun
     ensures { λ b. ⌜ takenSays (b .answer) ≡ takenSays (saveOf (now (file .entry)) slot (now (scan .entry)) (now (about .entry)) .answer) ⌝ }
     ensures { λ b. ⌜ b .job ≡ saveOf (now (file .entry)) slot (now (scan .entry)) (now (about .entry)) .job ⌝ }
 {
-    begin::saved(file, slot, scan, *about)
+    judged::begun(file, Goal::Slot(slot), scan, *about)
 }
 
 // A save to the lowest empty slot: 12 in place of 9.
@@ -32,7 +34,7 @@ pub fn keep(file: &[u8], scan: &[u8], about: &[u8; 54]) -> Begun
     ensures { λ b. ⌜ takenSays (b .answer) ≡ takenSays (keepOf (now (file .entry)) (now (scan .entry)) (now (about .entry)) .answer) ⌝ }
     ensures { λ b. ⌜ b .job ≡ keepOf (now (file .entry)) (now (scan .entry)) (now (about .entry)) .job ⌝ }
 {
-    begin::kept(file, scan, *about)
+    judged::begun(file, Goal::LowestEmpty, scan, *about)
 }
 
 // A clear of the slot: a job to be stepped with an empty scan, or one of 1 to 10.

@@ -37,7 +37,6 @@ pub record Held (z : Sizes) (j : Job) : Type 0 where
 pub record Homed (f : List ℕ) (z : Sizes) (j : Job) : Type 0 where
   pub held : Held z j
   pub within : homeOf z (j .slot) + z .m ≤ length f
-  pub few : j .written ≤ 1000003
 
 -- the data record at the job's place lies in the file
 pub record Rowed (f : List ℕ) (z : Sizes) (j : Job) : Type 0 where

@@ -1,4 +1,4 @@
-//! The three kinds of a job's writes: a data record, record 1, the slot's entry.
+//! The three kinds of a job's writes: a data record, record 1, the slot's entry. Each answers the record that it wrote.
 use super::boot;
 use super::count;
 use super::entry;
@@ -14,8 +14,8 @@ ghost use Rattle.paper.specs.Sizes.{startOf, recordOf, homeOf, bootBytes, renew
 ghost use Rattle.paper.specs.Store.{counterAfter, sizesAfter, entryAfter};
 ghost use Rattle.writes.specs.Inside.{Held, Homed, Rowed, wroteOne};
 
-// The answer for the record written, and the job one write on.
-fn wrote(number: usize, j: Job, boot: [u8; 32]) -> Stepped
+// The answer for the record written, and the job one write on, which then expects the bootstrap `boot`.
+pub fn wrote(number: usize, j: Job, boot: [u8; 32]) -> Stepped
     requires { ⌜ j .written ≤ 1000003 ⌝ }
     ensures { λ r. ⌜ r ≡ wroteOne number j boot ⌝ }
 {
@@ -30,9 +30,9 @@ fn wrote(number: usize, j: Job, boot: [u8; 32]) -> Stepped
 }
 
 // A data record, padded with zeros where the scan ends in it.
-pub fn write_data(file: &mut [u8], scan: &[u8], z: Sizes, j: Job) -> Stepped
+pub fn write_data(file: &mut [u8], scan: &[u8], z: Sizes, j: Job) -> usize
     requires { ⌜ Rowed (now file) z j ⌝ }
-    ensures { λ r. ⌜ r ≡ wroteOne (j .first + j .written) j (j .boot) ⌝ }
+    ensures { λ r. ⌜ r ≡ j .first + j .written ⌝ }
     ensures { λ _. ⌜ now (file .exit) ≡ write (now (file .entry)) (startOf z (j .first + j .written)) (pad (z .l) (part (j .written * z .l) (j .written * z .l + z .l) (now (scan .entry)))) ⌝ }
 {
     let l = z.l;
@@ -41,8 +41,7 @@ pub fn write_data(file: &mut [u8], scan: &[u8], z: Sizes, j: Job) -> Stepped
     let from = j.written * l;
     let p = lent::part::part(scan, from, from + l);
     lent::write::put_padded(file, (r - 1) * l, l, p);
-    let b = j.boot;
-    wrote(r, j, b)
+    r
 }
 
 fn higher(a: usize, b: usize) -> usize
@@ -78,24 +77,23 @@ fn sizes_after(z: Sizes, j: Job) -> Sizes
 }
 
 // Record 1: its first 32 bytes, all after them kept.
-pub fn write_boot(file: &mut [u8], z: Sizes, j: Job) -> Stepped
+pub fn write_boot(file: &mut [u8], z: Sizes, j: Job) -> usize
     requires { ⌜ Homed (now file) z j ⌝ }
-    ensures { λ r. ⌜ r ≡ wroteOne 1 j (bootBytes (sizesAfter z j)) ⌝ }
+    ensures { λ r. ⌜ r ≡ 1 ⌝ }
     ensures { λ _. ⌜ now (file .exit) ≡ write (now (file .entry)) 0 (bootBytes (sizesAfter z j)) ⌝ }
 {
     let b = boot::boot_bytes(sizes_after(z, j));
     lent::write::copy_to(file, 0, &b);
-    wrote(1, j, b)
+    1
 }
 
 // The slot's entry, the other bytes of its record kept.
-pub fn write_entry(file: &mut [u8], z: Sizes, j: Job) -> Stepped
+pub fn write_entry(file: &mut [u8], z: Sizes, j: Job) -> usize
     requires { ⌜ Homed (now file) z j ⌝ }
-    ensures { λ r. ⌜ r ≡ wroteOne (recordOf z (j .slot)) j (j .boot) ⌝ }
+    ensures { λ r. ⌜ r ≡ recordOf z (j .slot) ⌝ }
     ensures { λ _. ⌜ now (file .exit) ≡ write (now (file .entry)) (homeOf z (j .slot)) (entryAfter z j) ⌝ }
 {
     let r = z.record(j.slot);
     entry::put_entry(file, z, j);
-    let b = j.boot;
-    wrote(r, j, b)
+    r
 }

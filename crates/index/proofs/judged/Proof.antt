@@ -1,6 +1,4 @@
-use Rattle.index.proofs.Rows.{judged-refused, judged-row}
-use Rattle.paper.proofs.Opening.{boot-sound}
-use mathlib.Core.Path.{sym, _∙_}
+use Rattle.index.proofs.Answers.{booted, judged-refused, judged-row}
 use native.Mathlib.Omega.{arith}
 use borrow.Author.Needs.{needs}
 use Rattle.index.proofs.judged.Statement.{statement}
@@ -9,14 +7,11 @@ use Rattle.index.proofs.judged.Tie as tie
 returns : tie.Need-returns
 returns c = judged-refused _ _ _ _ (c .before .before .boot .ensures) (c .enum-told .given .1)
 
-fill-requires : tie.Need-fill-requires
-fill-requires c κs = (boot-sound (sym (c .before .before .before .before .boot .ensures) ∙ c .before .before .j .given .1), c .before .before .before .before .before .before .before .pre)
-
 judge-row-requires : tie.Need-judge-row-requires
-judge-row-requires c κs = (boot-sound (sym (c .before .before .before .before .before .before .before .before .boot .ensures) ∙ c .before .before .before .before .before .before .j .given .1) .ranged, omega (arith, c .before .before .before .fill .kept .1 .1 .0))
+judge-row-requires c κs = let h = booted _ _ (c .before .before .before .before .boot .ensures) (c .before .before .j .given .1) in (h, omega (arith, c .before .before .before .before .before .before .before .pre, h .ranged .used, h .ranged .shape .slots))
 
 returns-2 : tie.Need-returns-2
-returns-2 c = judged-row _ _ _ _ (boot-sound (sym (c .before .before .before .before .before .before .before .before .before .boot .ensures) ∙ c .before .before .before .before .before .before .before .j .given .1)) (c .before .before .before .before .fill .ensures) (c .judge-row .ensures)
+returns-2 c = let h = c .before .before .judge-row .ensures in judged-row _ _ _ _ (booted _ _ (c .before .before .before .before .before .before .before .boot .ensures) (c .before .before .before .before .before .j .given .1)) (h .1) (h .0)
 
 pub judged-spec : {M : Type 1} → statement M
 judged-spec =
@@ -26,7 +21,6 @@ judged-spec =
     (λ c. search needs)
     (λ c. search needs)
     returns
-    fill-requires
     judge-row-requires
     (λ c. search needs)
     returns-2)

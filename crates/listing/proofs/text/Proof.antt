@@ -39,7 +39,7 @@ lines-requires c κs =
     let d = s .before .before .before in
     let r = ranged d in
     let h = head-short (e .before .before .before .capacity .result) (d .j2 .given .0 .0 .u) (s .scans .result) in
-    let l = row-short _ (opens d) _ (d .before .before .before .judged .ensures .runs _ (d .j2 .given .1)) (r .used) in
+    let l = row-short _ (opens d) _ (d .before .before .before .judged .ensures .runs _ (d .j2 .given .1)) in
     ((omega (arith, d .before .before .before .judged .kept), omega arith), omega (arith, e .three .kept, e .three .ensures .place))
 
 returns : tie.Need-returns
@@ -55,7 +55,7 @@ returns-2 c =
     let k = e .before .before .before .capacity in
     let h = head-short (k .result) (d .j2 .given .0 .0 .u) (s .scans .result) in
     text-put (put-then (omega arith) (e .three .ensures) (c .before .before .lines .ensures))
-    (text-opens _ (opens d) _ (d .before .before .before .judged .ensures .runs _ (d .j2 .given .1)) (ranged d .used) (k .ensures) (s .scans .ensures .0))
+    (text-opens _ (opens d) _ (d .before .before .before .judged .ensures .runs _ (d .j2 .given .1)) (k .ensures) (s .scans .ensures .0))
 
 pub text-spec : {M : Type 1} → statement M
 text-spec =

@@ -1,8 +1,9 @@
 use Rattle.room.proofs.Freeing.{jump, touch, free-here, free-end}
 use Rattle.room.specs.Passing.{Passed}
-use Rattle.index.specs.Row.{rowRun}
+use Rattle.entries.specs.Row.{rowRun}
 use Prim.Native.Nat.{_-_}
-use mathlib.Core.Path.{sym, _∙_}
+use Rattle.paper.specs.declared.sizes.Run.{Run}
+use mathlib.Core.Path.{sym, _∙_, ap}
 use native.Mathlib.Omega.{arith}
 use borrow.Author.Needs.{needs}
 use Rattle.room.proofs.settle.Statement.{statement}
@@ -21,10 +22,14 @@ run-in-requires : tie.Need-run-in-requires Inv-loop μ-loop
 run-in-requires c κs = let s = c .before .before .before .before .before .before in let h = touch (rowRun _) (s .args .z) _ _ (c .before .touched .ensures) (c .if1 .left) in omega arith
 
 loop-less : tie.Need-loop-less Inv-loop μ-loop
-loop-less c = let s = c .before .before .before .before .before .before .before in let d = c .before .before .before .before in let j = jump (rowRun _) _ _ _ (s .pre .0 .some) (d .loop .inv) (s .pre .0 .ranged) (s .pre .0 .laid) _ (touch (rowRun _) _ _ _ (c .before .before .touched .ensures) (c .before .if1 .left)) _ (c .run-in .ensures) in omega arith
+loop-less c =
+    let s = c .before .before .before .before .before .before .before in
+    let h = touch (rowRun _) (s .args .z) _ _ (c .before .before .touched .ensures) (c .before .if1 .left) in
+    let e = ap (λ (r : Run). r .last) (c .run-in .ensures) in
+    omega (arith, h .shared .before, s .pre .0 .some)
 
 loop-again : tie.Need-loop-again Inv-loop μ-loop
-loop-again c = let s = c .before .before .before .before .before .before .before in let d = c .before .before .before .before in jump (rowRun _) _ _ _ (s .pre .0 .some) (d .loop .inv) (s .pre .0 .ranged) (s .pre .0 .laid) _ (touch (rowRun _) _ _ _ (c .before .before .touched .ensures) (c .before .if1 .left)) _ (c .run-in .ensures) .passed
+loop-again c = let s = c .before .before .before .before .before .before .before in let d = c .before .before .before .before in jump (rowRun _) _ _ _ (s .pre .0 .some) (d .loop .inv) (s .pre .0 .ranged) (s .pre .0 .inside) _ (touch (rowRun _) _ _ _ (c .before .before .touched .ensures) (c .before .if1 .left)) _ (ap (λ (r : Run). r .last) (c .run-in .ensures))
 
 returns-2 : tie.Need-returns-2 Inv-loop μ-loop
 returns-2 c = let s = c .before .before .before .before in free-end (rowRun _) _ _ _ (s .pre .0 .some) (c .before .loop .inv) _ (omega arith)

@@ -1,31 +1,40 @@
-use Rattle.steps.proofs.Agreed.{count-small, rowed}
-use Rattle.steps.proofs.Phases.{agreeing-at, data-step}
+use mathlib.Core.Path.{ap, _∙_}
+use Rattle.writes.specs.Inside.{wroteOne}
+use Rattle.steps.proofs.Agreed.{count-small}
+use Rattle.steps.proofs.Phases.{agreeing-at, past-step}
+use mathlib.Core.Path.{refl}
 use native.Mathlib.Omega.{arith}
 use borrow.Author.Needs.{needs}
 use Rattle.steps.proofs.next.Statement.{statement}
 use Rattle.steps.proofs.next.Tie as tie
 
-write-data-requires : tie.Need-write-data-requires
-write-data-requires c κs = rowed (c .before .before .before .before .before .before .args .file .now) (c .before .before .before .before .before .before .args .scan .now) (c .before .before .before .before .before .before .args .j) _ (agreeing-at (c .before .before .before .before .before .before .args .file .now) (c .before .before .before .before .before .before .args .scan .now) (c .before .before .before .before .before .before .args .j) (c .before .before .before .before .before .before .pre .1) (c .before .before .before .before .before .before .pre .0)) (omega arith)
+add-if1 : tie.Need-add-if1
+add-if1 c = omega (arith, count-small (c .before .before .before .args .file .now) (c .before .before .before .args .scan .now) (c .before .before .before .args .j) _ (agreeing-at (c .before .before .before .args .file .now) (c .before .before .before .args .scan .now) (c .before .before .before .args .j) (c .before .before .before .pre .1) (c .before .before .before .pre .0)))
 
 returns : tie.Need-returns
-returns c = data-step (c .before .before .before .before .before .before .before .before .before .args .file .now) (c .before .before .before .before .before .before .before .before .before .args .scan .now) (c .before .before .before .before .before .before .before .before .before .args .j) _ _ _ (c .before .before .before .before .before .before .before .before .before .pre .1) (c .before .before .before .before .before .before .before .before .before .pre .0) (omega arith) (c .before .before .write-data .ensures .0) (c .before .before .write-data .ensures .1)
+returns c = past-step (c .before .before .before .before .before .before .before .args .file .now) (c .before .before .before .before .before .before .before .args .scan .now) (c .before .before .before .before .before .before .before .args .j) _ _ _ (c .before .before .before .before .before .before .before .pre .1) (c .before .before .before .before .before .before .before .pre .0) (omega arith) _ (c .confirm .ensures) refl refl
 
-add-finish : tie.Need-add-finish
-add-finish c = omega (arith, count-small (c .before .before .before .before .before .before .args .file .now) (c .before .before .before .before .before .before .args .scan .now) (c .before .before .before .before .before .before .args .j) (c .before .before .before .before .before .before .args .z) (agreeing-at (c .before .before .before .before .before .before .args .file .now) (c .before .before .before .before .before .before .args .scan .now) (c .before .before .before .before .before .before .args .j) (c .before .before .before .before .before .before .pre .1) (c .before .before .before .before .before .before .pre .0)))
+write-next-requires : tie.Need-write-next-requires
+write-next-requires c κs = (c .before .before .before .before .before .before .pre .0, (c .before .before .before .before .before .before .pre .1, record { rows = c .before .before .before .records .ensures; some = omega arith }))
 
-finish-requires : tie.Need-finish-requires
-finish-requires c κs = (c .before .before .before .before .before .before .pre .0, (c .before .before .before .before .before .before .pre .1, record { boot = c .before .before .before .records .ensures; entry = omega arith; past = omega arith }))
+wrote-requires : tie.Need-wrote-requires
+wrote-requires c κs = omega (arith, count-small (c .before .before .before .before .before .before .before .before .before .before .before .args .file .now) (c .before .before .before .before .before .before .before .before .before .before .before .args .scan .now) (c .before .before .before .before .before .before .before .before .before .before .before .args .j) _ (agreeing-at (c .before .before .before .before .before .before .before .before .before .before .before .args .file .now) (c .before .before .before .before .before .before .before .before .before .before .before .args .scan .now) (c .before .before .before .before .before .before .before .before .before .before .before .args .j) (c .before .before .before .before .before .before .before .before .before .before .before .pre .1) (c .before .before .before .before .before .before .before .before .before .before .before .pre .0)))
+
+returns-2 : tie.Need-returns-2
+returns-2 c =
+    (c .wrote .ensures ∙ ap (wroteOne (c .before .before .before .before .before .write-next .result) (c .before .before .before .before .before .before .before .before .before .before .before .before .args .j)) (c .before .head .ensures) ∙ c .before .before .before .before .before .write-next .ensures .0, c .before .before .before .before .before .write-next .ensures .1)
 
 pub next-spec : {M : Type 1} → statement M
 next-spec =
     tie.close
     (tie.spec
     (λ c κs. search needs)
-    write-data-requires
+    add-if1
+    (λ c κs. search needs)
     (λ c. search needs)
     returns
-    add-finish
-    finish-requires
+    write-next-requires
+    (λ c κs. search needs)
+    wrote-requires
     (λ c. search needs)
-    (λ c. search needs))
+    returns-2)

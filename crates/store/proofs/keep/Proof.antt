@@ -6,7 +6,7 @@ use Rattle.store.proofs.keep.Statement.{statement}
 use Rattle.store.proofs.keep.Tie as tie
 
 returns : tie.Need-returns
-returns c = (ap (λ (b : Begun). takenSays (b .answer)) (c .kept .ensures), ap (λ (b : Begun). b .job) (c .kept .ensures))
+returns c = (ap (λ (b : Begun). takenSays (b .answer)) (c .begun .ensures), ap (λ (b : Begun). b .job) (c .begun .ensures))
 
 pub keep-spec : {M : Type 1} → statement M
 keep-spec = tie.close (tie.spec (λ c κs. search needs) returns)

@@ -6,7 +6,7 @@ use Rattle.store.proofs.save.Statement.{statement}
 use Rattle.store.proofs.save.Tie as tie
 
 returns : tie.Need-returns
-returns c = (ap (λ (b : Begun). takenSays (b .answer)) (c .saved .ensures), ap (λ (b : Begun). b .job) (c .saved .ensures))
+returns c = (ap (λ (b : Begun). takenSays (b .answer)) (c .begun .ensures), ap (λ (b : Begun). b .job) (c .begun .ensures))
 
 pub save-spec : {M : Type 1} → statement M
 save-spec = tie.close (tie.spec (λ c κs. search needs) returns)

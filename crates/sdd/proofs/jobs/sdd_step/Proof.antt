@@ -6,17 +6,17 @@ use Rattle.sdd.proofs.jobs.sdd_step.Statement.{statement}
 use Rattle.sdd.proofs.jobs.sdd_step.Tie as tie
 
 returns : tie.Need-returns
-returns c = other-saves (c .before .before .before .before .before .args .file .now) (c .before .before .before .before .before .args .scan .now) (c .before .before .before .before .before .args .c) (c .stepped .result) (c .before .if1 .taken) (c .stepped .ensures)
+returns c = other-saves (c .before .before .before .before .before .before .args .file .now) (c .before .before .before .before .before .before .args .scan .now) (c .before .before .before .before .before .before .args .c) (c .stepped .result) (c .before .answer .result) (c .before .before .if1 .taken) (c .before .answer .ensures) (c .stepped .ensures)
 
-stepped-requires-2 : tie.Need-stepped-requires-2
-stepped-requires-2 c κs =
-    step-small-of (c .before .before .before .before .step .result .answer) (stepAnswer (c .before .before .before .before .before .before .before .before .before .before .before .args .file .now) (c .before .before .before .before .before .before .before .before .before .before .before .args .scan .now) (c .before .before .before .before .before .job .result)) (c .before .before .before .before .step .ensures .0)
-    (step-small (c .before .before .before .before .before .before .before .before .before .before .before .args .file .now) (c .before .before .before .before .before .before .before .before .before .before .before .args .scan .now) (c .before .before .before .before .before .job .result))
+answer-requires-2 : tie.Need-answer-requires-2
+answer-requires-2 c κs =
+    step-small-of (c .before .before .step .result .answer) (stepAnswer (c .before .before .before .before .before .before .before .before .before .args .file .now) (c .before .before .before .before .before .before .before .before .before .args .scan .now) (c .before .before .before .job .result)) (c .before .before .step .ensures .0)
+    (step-small (c .before .before .before .before .before .before .before .before .before .args .file .now) (c .before .before .before .before .before .before .before .before .before .args .scan .now) (c .before .before .before .job .result))
 
 returns-2 : tie.Need-returns-2
 returns-2 c =
-    step-face (c .before .before .before .before .before .before .before .before .before .before .before .before .args .file .now) (c .before .before .before .before .before .before .before .before .before .before .before .before .args .scan .now) (c .before .before .before .before .before .before .before .before .before .before .before .before .args .c) (c .stepped2 .result) _ (c .before .before .before .before .before .step .result) (c .before .before .before .before .before .before .job .result) (c .before .numbers .result)
-    (c .before .before .before .before .before .before .before .before .if1 .left) (c .before .before .before .before .before .before .job .ensures) (c .before .before .before .before .before .step .ensures .0) (c .before .before .before .before .before .step .ensures .1 .0) (c .before .before .before .before .before .step .ensures .1 .1) (c .before .numbers .ensures)
+    step-face (c .before .before .before .before .before .before .before .before .before .before .before .before .before .args .file .now) (c .before .before .before .before .before .before .before .before .before .before .before .before .before .args .scan .now) (c .before .before .before .before .before .before .before .before .before .before .before .before .before .args .c) (c .stepped2 .result) (c .before .before .before .answer2 .result) _ (c .before .before .before .before .before .before .step .result) (c .before .before .before .before .before .before .before .job .result)
+    (c .before .before .before .before .before .before .before .before .before .if1 .left) (c .before .before .before .before .before .before .before .job .ensures) (c .before .before .before .before .before .before .step .ensures .0) (c .before .before .before .before .before .before .step .ensures .1 .0) (c .before .before .before .before .before .before .step .ensures .1 .1) (c .before .before .before .answer2 .ensures)
     (c .stepped2 .ensures)
 
 pub sdd-step-spec : {M : Type 1} → statement M
@@ -24,10 +24,11 @@ sdd-step-spec =
     tie.close
     (tie.spec
     (λ c κs. search needs)
+    (λ c κs. search needs)
     returns
     (λ c κs. search needs)
     (λ c κs. search needs)
+    answer-requires-2
     (λ c κs. search needs)
-    stepped-requires-2
     (λ c. search needs)
     returns-2)

@@ -1,5 +1,5 @@
 use Rattle.paper.specs.Look.{showOf}
-use mathlib.Core.Path.{sym, _∙_}
+use mathlib.Core.Path.{_∙_}
 use Rattle.sdd.proofs.Through.{span-small, span-face}
 use Rattle.sdd.proofs.Small.{show-small}
 use borrow.Author.Needs.{needs}

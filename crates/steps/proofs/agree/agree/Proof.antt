@@ -1,8 +1,7 @@
 use lib.ListN.{length}
-use Rattle.steps.proofs.Agreed.{few-records}
 use native.Mathlib.Omega.{arith}
 use mathlib.Core.Path.{sym, _∙_}
-use Rattle.steps.proofs.Agreed.{other-file, other-slot, other-records, too-many, all-agree}
+use Rattle.steps.proofs.Agreed.{few-records, holds-boot, other-file, other-boot, other-slot, other-records, too-many, all-agree}
 use borrow.Author.Tests.{not-true, not-false}
 use borrow.Author.Needs.{needs}
 use Rattle.steps.proofs.agree.agree.Statement.{statement}
@@ -12,21 +11,33 @@ returns : tie.Need-returns
 returns c = let a = c .before .before .before .before .args in other-file (a .file .now) (a .scan .now) (a .j) _ (c .before .before .before .before .pre) (sym (c .before .same-file .ensures) ∙ not-true _ (c .if1 .taken))
 
 returns-2 : tie.Need-returns-2
-returns-2 c = let a = c .before .before .before .before .before .before .args in other-slot (a .file .now) (a .scan .now) (a .j) _ (c .before .before .before .before .before .before .pre) (sym (c .before .has-slot .ensures) ∙ not-true _ (c .if2 .taken))
+returns-2 c = let a = c .before .before .before .before .before .before .args in other-boot (a .file .now) (a .scan .now) (a .j) _ (c .before .before .before .before .before .before .pre) (sym (c .before .boot-holds .ensures) ∙ not-true _ (c .if2 .taken))
+
+has-slot-requires : tie.Need-has-slot-requires
+has-slot-requires c κs = holds-boot _ _ (c .before .before .before .before .before .before .pre) (sym (c .before .boot-holds .ensures) ∙ not-false _ (c .if2 .left)) .ranged .shape
 
 returns-3 : tie.Need-returns-3
-returns-3 c = let a = c .before .before .before .before .before .before .before .before .args in other-records (a .file .now) (a .scan .now) (a .j) _ (c .before .before .before .before .before .before .before .before .pre) (sym (c .before .records-fit .ensures) ∙ not-true _ (c .if3 .taken))
+returns-3 c = let a = c .before .before .before .before .before .before .before .before .args in other-slot (a .file .now) (a .scan .now) (a .j) _ (c .before .before .before .before .before .before .before .before .pre) (sym (c .before .has-slot .ensures) ∙ not-true _ (c .if3 .taken))
 
-add-if4 : tie.Need-add-if4
-add-if4 c = let a = c .before .before .before .before .before .before .before .before .before .args in omega (arith, few-records (a .z) (length (a .file .now)) (a .j) (sym (c .before .before .records-fit .ensures) ∙ not-false _ (c .before .if3 .left)))
+records-fit-requires : tie.Need-records-fit-requires
+records-fit-requires c κs = holds-boot _ _ (c .before .before .before .before .before .before .before .before .pre) (sym (c .before .before .before .boot-holds .ensures) ∙ not-false _ (c .before .before .if2 .left)) .ranged .shape
 
 returns-4 : tie.Need-returns-4
-returns-4 c = let a = c .before .before .before .before .before .before .before .before .before .before .before .args in too-many (a .file .now) (a .scan .now) (a .j) _ (c .before .before .before .before .before .before .before .before .before .before .before .pre) (omega arith)
+returns-4 c = let a = c .before .before .before .before .before .before .before .before .before .before .args in other-records (a .file .now) (a .scan .now) (a .j) _ (c .before .before .before .before .before .before .before .before .before .before .pre) (sym (c .before .records-fit .ensures) ∙ not-true _ (c .if4 .taken))
+
+records-requires : tie.Need-records-requires
+records-requires c κs = holds-boot _ _ (c .before .before .before .before .before .before .before .before .before .before .pre) (sym (c .before .before .before .before .before .boot-holds .ensures) ∙ not-false _ (c .before .before .before .before .if2 .left)) .ranged .shape
+
+add-if5 : tie.Need-add-if5
+add-if5 c = let a = c .before .before .before .before .before .before .before .before .before .before .before .args in omega (arith, few-records (a .z) (length (a .file .now)) (a .j) (sym (c .before .before .records-fit .ensures) ∙ not-false _ (c .before .if4 .left)))
 
 returns-5 : tie.Need-returns-5
-returns-5 c = let a = c .before .before .before .before .before .before .before .before .before .before .before .args in
-    all-agree (a .file .now) (a .scan .now) (a .j) _ (c .before .before .before .before .before .before .before .before .before .before .before .pre) (sym (c .before .before .before .before .before .before .before .before .same-file .ensures) ∙ not-false _ (c .before .before .before .before .before .before .before .if1 .left))
-    (sym (c .before .before .before .before .before .before .has-slot .ensures) ∙ not-false _ (c .before .before .before .before .before .if2 .left)) (sym (c .before .before .before .before .records-fit .ensures) ∙ not-false _ (c .before .before .before .if3 .left)) (omega arith)
+returns-5 c = let a = c .before .before .before .before .before .before .before .before .before .before .before .before .before .args in too-many (a .file .now) (a .scan .now) (a .j) _ (c .before .before .before .before .before .before .before .before .before .before .before .before .before .pre) (omega arith)
+
+returns-6 : tie.Need-returns-6
+returns-6 c = let a = c .before .before .before .before .before .before .before .before .before .before .before .before .before .args in
+    all-agree (a .file .now) (a .scan .now) (a .j) _ (c .before .before .before .before .before .before .before .before .before .before .before .before .before .pre) (sym (c .before .before .before .before .before .before .before .before .before .before .same-file .ensures) ∙ not-false _ (c .before .before .before .before .before .before .before .before .before .if1 .left))
+    (sym (c .before .before .before .before .before .before .before .before .boot-holds .ensures) ∙ not-false _ (c .before .before .before .before .before .before .before .if2 .left)) (sym (c .before .before .before .before .before .before .has-slot .ensures) ∙ not-false _ (c .before .before .before .before .before .if3 .left)) (sym (c .before .before .before .before .records-fit .ensures) ∙ not-false _ (c .before .before .before .if4 .left)) (omega arith)
 
 pub agree-spec : {M : Type 1} → statement M
 agree-spec =
@@ -36,9 +47,11 @@ agree-spec =
     returns
     (λ c κs. search needs)
     returns-2
-    (λ c κs. search needs)
+    has-slot-requires
     returns-3
-    (λ c κs. search needs)
-    add-if4
+    records-fit-requires
     returns-4
-    returns-5)
+    records-requires
+    add-if5
+    returns-5
+    returns-6)

@@ -1,5 +1,6 @@
 use native.Mathlib.Omega.{arith}
-use Rattle.steps.specs.Tests.{slotTests, hasSlot}
+use Rattle.paper.specs.Look.{slotTests}
+use Rattle.steps.specs.Tests.{hasSlot}
 use Rattle.lent.proofs.Lists.{no-all, yes-all}
 use borrow.Author.Tests.{leb-true, le-leb}
 use borrow.Author.Needs.{needs}

@@ -3,7 +3,8 @@ use Rattle.paper.proofs.Opening.{shaped-facts}
 use Rattle.store.proofs.Blanking.{head-small}
 use mathlib.Core.Path.{sym, _∙_}
 use native.Mathlib.Omega.{arith}
-use Rattle.store.specs.Blank.{blankTests, blankFits}
+use Rattle.paper.specs.Store.{blankTests}
+use Rattle.store.specs.Blank.{blankFits}
 use Rattle.lent.proofs.Lists.{no-all, yes-all, true≢false}
 use borrow.Author.Tests.{leb-true, le-leb, not-true, not-false}
 use borrow.Author.Needs.{needs}

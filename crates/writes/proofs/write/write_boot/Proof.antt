@@ -17,6 +17,5 @@ write-boot-spec =
     boot-bytes-requires
     (λ c. search needs)
     (λ c κs. search needs)
-    (λ c κs. search needs)
     (λ c. search needs)
     returns)

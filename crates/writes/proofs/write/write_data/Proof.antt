@@ -24,6 +24,5 @@ write-data-spec =
     (λ c. search needs)
     (λ c. search needs)
     put-padded-requires
-    (λ c κs. search needs)
     (λ c. search needs)
     returns)

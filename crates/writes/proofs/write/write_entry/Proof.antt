@@ -7,4 +7,4 @@ returns c = (cc, cc)
 
 pub write-entry-spec : {M : Type 1} → statement M
 write-entry-spec =
-    tie.close (tie.spec (λ c κs. search needs) (λ c κs. search needs) (λ c κs. search needs) (λ c. search needs) returns)
+    tie.close (tie.spec (λ c κs. search needs) (λ c κs. search needs) (λ c. search needs) returns)

@@ -1,0 +1,102 @@
+-- The laws of the row: it is filled slot by slot, and what holds of its runs holds of the file's.
+use Prim.Native.Nat.{ℕ, _+_, _-_, _*_, _≤_, _<_}
+use mathlib.Core.Path.{_≡_, sym, _∙_, ap}
+use mathlib.Core.Bool.{Bool}
+use mathlib.Core.List.{List}
+use native.Mathlib.Decide.{decLe}
+use native.Mathlib.Omega.{arith}
+use lib.ListN.{length, getD, set, length-set}
+use lib.Seq.{getD-set-same, getD-set-other}
+use Rattle.lent.specs.Number.{be32, Plain}
+use Rattle.lent.specs.Least.{least}
+use Rattle.lent.proofs.Leasts.{least-same}
+use Rattle.paper.specs.declared.sizes.Sizes.{Sizes}
+use Rattle.paper.specs.declared.sizes.Run.{Run}
+use Rattle.paper.specs.Sizes.{homeOf}
+use Rattle.paper.specs.Index.{runOf, shares, sharer, badAt, sharedAt}
+use Rattle.entries.specs.Row.{rowRun, Stated, Runs, Fits}
+
+-- a test of a run that was read
+pub read : (p : Run → Bool) {a b : Run} {x y : Bool} → a ≡ b → x ≡ p a → x ≡ y → p b ≡ y
+read p e f g = sym (ap p e) ∙ sym f ∙ g
+
+pub runs-none : (f : List ℕ) (z : Sizes) (row : List ℕ) → Runs f z row 0
+runs-none f z row = record { run = λ s a b. absurd (omega arith) }
+
+pub fits-none : (z : Sizes) (run : ℕ → Run) (i : ℕ) → i ≡ 0 → Fits z run i
+fits-none z run i e = record { bad = record { none = λ s a b. absurd (omega arith) }; shared = record { none = λ s a b. absurd (omega arith) } }
+
+pub runs-low : {f : List ℕ} {z : Sizes} {row : List ℕ} {i : ℕ} → Runs f z row i → (n : ℕ) → n ≤ i → Runs f z row n
+runs-low h n l = record { run = λ s a b. h .run s a (omega arith) }
+
+-- the two numbers at a slot's home
+module _ (f : List ℕ) (z : Sizes) (s at x y : ℕ) (e : at ≡ homeOf z s) (p : x ≡ be32 f at) (q : y ≡ be32 f (at + 4)) where
+  pub run-is : _≡_ {A = Run} (record { first = x; last = y }) (runOf f z s)
+  run-is =
+      let j : x ≡ be32 f (homeOf z s) = p ∙ ap (be32 f) e in
+      let k : y ≡ be32 f (homeOf z s + 4) = q ∙ ap (λ h. be32 f (h + 4)) e in
+      simp (j, k)
+
+  pub run-stated : (a b : ℕ) → Plain x 4294967296 a → Plain y 4294967296 b → Stated f z s (record { first = a; last = b })
+  run-stated a b m n = record { is = rw (m .is, n .is) run-is; first = m .small; last = n .small }
+
+-- the run of slot s is stored
+module _ (f : List ℕ) (z : Sizes) (row : List ℕ) (s : ℕ) (low : 1 ≤ s) (long : 2 * s ≤ length row) (h : Runs f z row (s - 1)) (a : Run) (e : a ≡ runOf f z s) where
+  after : List ℕ
+  after = set (set row (2 * (s - 1)) (a .first)) (2 * (s - 1) + 1) (a .last)
+
+  old : (t : ℕ) → 1 ≤ t → t < s → rowRun after t ≡ rowRun row t
+  unfolding rowRun after
+  old t l m =
+      let g : (k : ℕ) → k < 2 * (s - 1) → getD (set (set row (2 * (s - 1)) (a .first)) (2 * (s - 1) + 1) (a .last)) k 0 ≡ getD row k 0 =
+      λ k j. getD-set-other (set row (2 * (s - 1)) (a .first)) (2 * (s - 1) + 1) k (a .last) 0 (λ q. omega arith) ∙ getD-set-other row (2 * (s - 1)) k (a .first) 0 (λ q. omega arith) in
+      simp (g (2 * (t - 1)) (omega arith), g (2 * (t - 1) + 1) (omega arith))
+
+  new : rowRun after s ≡ a
+  unfolding rowRun after
+  new =
+      let p : getD after (2 * (s - 1)) 0 ≡ a .first =
+      getD-set-other (set row (2 * (s - 1)) (a .first)) (2 * (s - 1) + 1) (2 * (s - 1)) (a .last) 0 (λ q. omega arith) ∙ getD-set-same row (2 * (s - 1)) (a .first) 0 (omega arith) in
+      let q : getD after (2 * (s - 1) + 1) 0 ≡ a .last = getD-set-same (set row (2 * (s - 1)) (a .first)) (2 * (s - 1) + 1) (a .last) 0 (simp length-set (omega arith)) in
+      simp (p, q)
+
+  pub runs-more : Runs f z (set (set row (2 * (s - 1)) (a .first)) (2 * (s - 1) + 1) (a .last)) s
+  unfolding after
+  runs-more = record { run = λ t l m. one t l m (decLe s t) }
+    where
+      one : (t : ℕ) → 1 ≤ t → t ≤ s → Dec (s ≤ t) → rowRun after t ≡ runOf f z t
+      one t l m (no k) = old t l (omega arith) ∙ h .run t l (omega arith)
+      one t l m (yes k) = let q : t ≡ s = omega arith in rw q (new ∙ e)
+
+-- ---- runs that agree on the slots 1 to n, wherever they are read
+
+module _ (z : Sizes) (run sun : ℕ → Run) (n : ℕ) (e : (s : ℕ) → 1 ≤ s → s ≤ n → run s ≡ sun s) where
+  pub sharer-same : (r : Run) (m : ℕ) → m ≤ n → sharer run r m ≡ sharer sun r m
+  unfolding sharer
+  sharer-same r m h = least-same (λ t. shares r (run t)) (λ t. shares r (sun t)) m (λ t a b. ap (shares r) (e t a (omega arith)))
+
+  pub bad-same : (s : ℕ) → 1 ≤ s → s ≤ n → badAt z run s ≡ badAt z sun s
+  unfolding badAt
+  bad-same s l m = rw (e s l m)
+
+  pub shared-same : (s : ℕ) → 1 ≤ s → s ≤ n → sharedAt run s ≡ sharedAt sun s
+  unfolding sharedAt
+  shared-same s l m = rw (e s l m, sharer-same (sun s) (s - 1) (omega arith))
+
+  pub fits-same : (i : ℕ) → i ≤ n → Fits z sun i → Fits z run i
+  fits-same i h g =
+      record {
+        bad = record { none = λ s l m. bad-same s l (omega arith) ∙ g .bad .none s l m };
+        shared = record { none = λ s l m. shared-same s l (omega arith) ∙ g .shared .none s l m };
+      }
+
+-- a row that was filled from a file
+module _ (f : List ℕ) (z : Sizes) (row : List ℕ) (h : Runs f z row (z .u)) where
+  pub bad-row : {k : ℕ} → k ≡ least (badAt z (rowRun row)) (z .u) → k ≡ least (badAt z (runOf f z)) (z .u)
+  bad-row e = e ∙ least-same _ _ (z .u) (bad-same z (rowRun row) (runOf f z) (z .u) (h .run))
+
+  pub shared-row : {k : ℕ} → k ≡ least (sharedAt (rowRun row)) (z .u) → k ≡ least (sharedAt (runOf f z)) (z .u)
+  shared-row e = e ∙ least-same _ _ (z .u) (shared-same z (rowRun row) (runOf f z) (z .u) (h .run))
+
+  pub fits-row : (i : ℕ) → i ≤ z .u → Fits z (runOf f z) i → Fits z (rowRun row) i
+  fits-row = fits-same z (rowRun row) (runOf f z) (z .u) (h .run)

@@ -1,0 +1,16 @@
+use borrow.Author.Needs.{needs}
+use Rattle.entries.proofs.boot.sizes_at.Statement.{statement}
+use Rattle.entries.proofs.boot.sizes_at.Tie as tie
+
+pub sizes-at-spec : {M : Type 1} → statement M
+sizes-at-spec =
+    tie.close
+    (tie.spec
+    (λ c κs. search needs)
+    (λ c κs. search needs)
+    (λ c κs. search needs)
+    (λ c κs. search needs)
+    (λ c κs. search needs)
+    (λ c κs. search needs)
+    (λ c κs. search needs)
+    (λ c. cc))

@@ -1,0 +1,46 @@
+-- A row of 32-bit numbers that holds the entries in use: first and last of each slot, in slot order.
+use Prim.Native.Nat.{ℕ, _+_, _-_, _*_, _≤_, _<_}
+use mathlib.Core.Path.{_≡_}
+use mathlib.Core.List.{List}
+use lib.ListN.{length, getD}
+use Rattle.lent.specs.Least.{None}
+use Rattle.paper.specs.declared.sizes.Sizes.{Sizes}
+use Rattle.paper.specs.declared.sizes.Run.{Run}
+use Rattle.paper.specs.Sizes.{capacityOf}
+use Rattle.paper.specs.Index.{runOf, badAt, sharedAt, Booted}
+
+-- the run of slot s
+unfoldable pub rowRun : List ℕ → ℕ → Run
+rowRun row s = record { first = getD row (2 * (s - 1)) 0; last = getD row (2 * (s - 1) + 1) 0 }
+
+-- s is a slot, and the row reaches it
+pub record InRow (row : List ℕ) (s : ℕ) : Type 0 where
+  pub low : 1 ≤ s
+  pub high : s ≤ 4096
+  pub wide : 2 * s ≤ length row
+
+-- s is a slot of the file
+pub record Entry (f : List ℕ) (z : Sizes) (s : ℕ) : Type 0 where
+  pub booted : Booted f z
+  pub low : 1 ≤ s
+  pub high : s ≤ capacityOf z
+
+-- r is the run that the file states for slot s
+pub record Stated (f : List ℕ) (z : Sizes) (s : ℕ) (r : Run) : Type 0 where
+  pub is : r ≡ runOf f z s
+  pub first : r .first < 4294967296
+  pub last : r .last < 4294967296
+
+-- the first i runs of the row are those that the file states
+pub record Runs (f : List ℕ) (z : Sizes) (row : List ℕ) (i : ℕ) : Type 0 where
+  pub run : (s : ℕ) → 1 ≤ s → s ≤ i → rowRun row s ≡ runOf f z s
+
+-- each of the slots 1 to i is good and shares no record with a smaller one
+pub record Fits (z : Sizes) (run : ℕ → Run) (i : ℕ) : Type 0 where
+  pub bad : None (badAt z run) i
+  pub shared : None (sharedAt run) i
+
+-- the slots after slot i, up to slot j, are empty
+pub record Bare (f : List ℕ) (z : Sizes) (i j : ℕ) : Type 0 where
+  pub low : i ≤ j
+  pub empty : (s : ℕ) → i < s → s ≤ j → runOf f z s .first + runOf f z s .last ≡ 0
