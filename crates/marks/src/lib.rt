@@ -31,8 +31,8 @@ fn take_bits(marks: &mut [u64], i: usize, x: usize, y: usize) -> bool
     true
 }
 
-// Takes the records `a` to `b`, or answers that one of them was taken. The marks reach word `b / 64`; 15,626 words are the most, for the records up to 1,000,000.
-pub fn take_run(marks: &mut [u64], a: usize, b: usize) -> bool
+// Takes the records `a` to `b`, word by word.
+fn take_words(marks: &mut [u64], a: usize, b: usize) -> bool
     requires { ⌜ (a ≤ b) × (b ≤ 1000000) × (b / 64 < length (now marks)) ⌝ }
     ensures { λ r. ⌜ (r ≡ true → Took (now (marks .entry)) (now (marks .exit)) a (b + 1)) ⌝ }
 {
@@ -47,4 +47,16 @@ pub fn take_run(marks: &mut [u64], a: usize, b: usize) -> bool
         x = 0;
     }
     take_bits(&mut *marks, i, x, b % 64)
+}
+
+// Takes the records `a` to `b`, or answers that one of them was taken. A short run mostly lies in one word. The marks reach word `b / 64`; 15,626 words are the most, for the records up to 1,000,000.
+pub fn take_run(marks: &mut [u64], a: usize, b: usize) -> bool
+    requires { ⌜ (a ≤ b) × (b ≤ 1000000) × (b / 64 < length (now marks)) ⌝ }
+    ensures { λ r. ⌜ (r ≡ true → Took (now (marks .entry)) (now (marks .exit)) a (b + 1)) ⌝ }
+{
+    let i = a / 64;
+    if i == b / 64 {
+        return take_bits(marks, i, a % 64, b % 64);
+    }
+    take_words(marks, a, b)
 }
