@@ -14,7 +14,7 @@ use Rattle.paper.specs.declared.sizes.Sizes.{Sizes}
 use Rattle.paper.specs.declared.sizes.Run.{Run}
 use Rattle.paper.specs.Sizes.{homeOf}
 use Rattle.paper.specs.Index.{runOf, shares, sharer, badAt, sharedAt}
-use Rattle.entries.specs.Row.{rowRun, Stated, Runs, Fits}
+use Rattle.entries.specs.Row.{rowRun, Stated, Runs, Fits, Holder}
 
 -- a test of a run that was read
 pub read : (p : Run → Bool) {a b : Run} {x y : Bool} → a ≡ b → x ≡ p a → x ≡ y → p b ≡ y
@@ -69,6 +69,11 @@ module _ (f : List ℕ) (z : Sizes) (row : List ℕ) (s : ℕ) (low : 1 ≤ s) (
       one t l m (yes k) = let q : t ≡ s = omega arith in rw q (new ∙ e)
 
 -- ---- runs that agree on the slots 1 to n, wherever they are read
+
+pub holder-same : (run sun : ℕ → Run) (i x : ℕ) → ((s : ℕ) → 1 ≤ s → s ≤ i → run s ≡ sun s) → Holder sun i x → Holder run i x
+holder-same run sun i x e h =
+    let q = e (h .slot) (h .low) (h .high) in
+    record { slot = h .slot; low = h .low; high = h .high; from = rw q (h .from); to = rw q (h .to) }
 
 module _ (z : Sizes) (run sun : ℕ → Run) (n : ℕ) (e : (s : ℕ) → 1 ≤ s → s ≤ n → run s ≡ sun s) where
   pub sharer-same : (r : Run) (m : ℕ) → m ≤ n → sharer run r m ≡ sharer sun r m

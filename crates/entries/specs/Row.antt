@@ -20,7 +20,7 @@ pub record InRow (row : List ℕ) (s : ℕ) : Type 0 where
   pub wide : 2 * s ≤ length row
 
 -- s is a slot of the file
-pub record Entry (f : List ℕ) (z : Sizes) (s : ℕ) : Type 0 where
+pub record InFile (f : List ℕ) (z : Sizes) (s : ℕ) : Type 0 where
   pub booted : Booted f z
   pub low : 1 ≤ s
   pub high : s ≤ capacityOf z
@@ -44,3 +44,11 @@ pub record Fits (z : Sizes) (run : ℕ → Run) (i : ℕ) : Type 0 where
 pub record Bare (f : List ℕ) (z : Sizes) (i j : ℕ) : Type 0 where
   pub low : i ≤ j
   pub empty : (s : ℕ) → i < s → s ≤ j → runOf f z s .first + runOf f z s .last ≡ 0
+
+-- record x belongs to one of the slots 1 to i
+pub record Holder (run : ℕ → Run) (i x : ℕ) : Type 0 where
+  pub slot : ℕ
+  pub low : 1 ≤ slot
+  pub high : slot ≤ i
+  pub from : run slot .first ≤ x
+  pub to : x ≤ run slot .last

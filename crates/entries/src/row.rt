@@ -4,7 +4,7 @@ ghost use Prim.Native.Nat.{_*_, _-_, _≤_};
 ghost use lib.ListN.{length};
 ghost use Rattle.lent.specs.Number.{Plain};
 ghost use Rattle.paper.specs.Index.{sharer, Booted};
-ghost use Rattle.entries.specs.Row.{rowRun, InRow, Entry, Stated, Runs};
+ghost use Rattle.entries.specs.Row.{rowRun, InRow, InFile, Stated, Runs};
 use paper::sizes::Run;
 use paper::sizes::Sizes;
 
@@ -28,7 +28,7 @@ pub fn run_in(row: &[u32], s: usize) -> Run
 
 // The run of slot `s`, from its entry. The home costs no division.
 pub fn run_at(file: &[u8], z: Sizes, s: usize) -> Run
-    requires { ⌜ Entry (now file) z s ⌝ }
+    requires { ⌜ InFile (now file) z s ⌝ }
     ensures { λ r. ⌜ Stated (now (file .entry)) z s r ⌝ }
 {
     let at = z.home(s);
@@ -40,7 +40,7 @@ pub fn run_at(file: &[u8], z: Sizes, s: usize) -> Run
 
 // Decodes the entry of slot `s` into the row.
 pub fn put_run(file: &[u8], z: Sizes, s: usize, row: &mut [u32]) -> Run
-    requires { ⌜ Entry (now file) z s ⌝ }
+    requires { ⌜ InFile (now file) z s ⌝ }
     requires { ⌜ InRow (now row) s ⌝ }
     requires { ⌜ Runs (now file) z (now row) (s - 1) ⌝ }
     ensures { λ r. ⌜ Stated (now (file .entry)) z s r ⌝ }

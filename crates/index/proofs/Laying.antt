@@ -11,8 +11,9 @@ use Rattle.paper.specs.declared.sizes.Sizes.{Sizes}
 use Rattle.paper.specs.declared.sizes.Run.{Run}
 use Rattle.paper.specs.Index.{runOf, badAt, sharedAt, Lies}
 use Rattle.paper.proofs.Opening.{empty-lies, empty-apart, good-lies, lies-good, Shares, shares-common, facts-shared}
-use Rattle.entries.specs.Row.{Fits, Bare}
-use Rattle.index.specs.Judging.{Held, Shows, Lodged}
+use Rattle.entries.specs.Row.{Fits, Bare, Holder}
+use Rattle.entries.proofs.Rows.{holder-same}
+use Rattle.index.specs.Judging.{Shows, Lodged}
 
 -- ---- the records of one run
 
@@ -64,21 +65,16 @@ shows-none n run c t =
 pub shows-end : {ws : List ℕ} {n : ℕ} {run : ℕ → Run} {i : ℕ} → Shows ws n run i → (j : ℕ) → i ≡ j → Shows ws n run j
 shows-end {ws} {n} {run} h j e = subst (Shows ws n run) e h
 
-held-more : {run : ℕ → Run} {i j x : ℕ} → i ≤ j → Held run i x → Held run j x
-held-more l h = record { slot = h .slot; low = h .low; high = omega arith; from = h .from; to = h .to }
+holder-more : {run : ℕ → Run} {i j x : ℕ} → i ≤ j → Holder run i x → Holder run j x
+holder-more l h = record { slot = h .slot; low = h .low; high = omega arith; from = h .from; to = h .to }
 
 -- runs that agree on the slots 1 to i
 module _ (run sun : ℕ → Run) (i : ℕ) (e : (s : ℕ) → 1 ≤ s → s ≤ i → run s ≡ sun s) where
   pub shows-row : (ws : List ℕ) (n : ℕ) → Shows ws n run i → Shows ws n sun i
-  shows-row ws n h = record { low = h .low; covers = covers; only = λ x l m. held (h .only x l m) }
+  shows-row ws n h = record { low = h .low; covers = covers; only = λ x l m. holder-same sun run i x (λ t a b. sym (e t a b)) (h .only x l m) }
     where
       covers : (t : ℕ) → 1 ≤ t → t ≤ i → (x : ℕ) → 1 ≤ x → sun t .first ≤ x → x ≤ sun t .last → markOf ws x ≡ 1
       covers t l m = subst (λ (a : Run). (x : ℕ) → 1 ≤ x → a .first ≤ x → x ≤ a .last → markOf ws x ≡ 1) (e t l m) (h .covers t l m)
-
-      held : {x : ℕ} → Held run i x → Held sun i x
-      held {x} k =
-          let q = e (k .slot) (k .low) (k .high) in
-          record { slot = k .slot; low = k .low; high = k .high; from = subst (λ (a : Run). a .first ≤ x) q (k .from); to = subst (λ (a : Run). x ≤ a .last) q (k .to) }
 
 -- slot i + 1, whose run was read and lodged
 module _ (run : ℕ → Run) (i : ℕ) {ws vs : List ℕ} {a : Run} (e : a ≡ run (i + 1)) (l : Lodged ws vs a) where
@@ -92,9 +88,9 @@ module _ (run : ℕ → Run) (i : ℕ) {ws vs : List ℕ} {a : Run} (e : a ≡ r
       covers t m (yes k) o x p q r = d .kept x (h .covers t m k x p q r)
       covers t m (no k) o x p q r = let s : t ≡ i + 1 = omega arith in let b = rw s at q in let f = rw s at r in d .marked (omega arith) x b f
 
-      only : (x : ℕ) → n < x → markOf vs x ≡ 1 → Dec (run (i + 1) .first ≤ x) → Dec (x ≤ run (i + 1) .last) → Held run (i + 1) x
-      only x m k (no p) q = held-more (omega arith) (h .only x m (d .below x (omega arith) k))
-      only x m k (yes p) (no q) = held-more (omega arith) (h .only x m (d .above x (omega arith) k))
+      only : (x : ℕ) → n < x → markOf vs x ≡ 1 → Dec (run (i + 1) .first ≤ x) → Dec (x ≤ run (i + 1) .last) → Holder run (i + 1) x
+      only x m k (no p) q = holder-more (omega arith) (h .only x m (d .below x (omega arith) k))
+      only x m k (yes p) (no q) = holder-more (omega arith) (h .only x m (d .above x (omega arith) k))
       only x m k (yes p) (yes q) = record { slot = i + 1; low = omega arith; high = omega arith; from = p; to = q }
 
   -- a run that met no mark lies past record n and shares no record with a smaller slot
@@ -116,7 +112,7 @@ module _ (run : ℕ → Run) (i : ℕ) {ws vs : List ℕ} {a : Run} (e : a ≡ r
 -- the slots after slot i, up to slot j, are empty
 module _ {f : List ℕ} {z : Sizes} {i j : ℕ} (b : Bare f z i j) where
   pub shows-bare : {ws : List ℕ} {n : ℕ} → Shows ws n (runOf f z) i → Shows ws n (runOf f z) j
-  shows-bare {ws} h = record { low = h .low; covers = λ t l m. covers t l m (decLe t i); only = λ x l m. held-more (b .low) (h .only x l m) }
+  shows-bare {ws} h = record { low = h .low; covers = λ t l m. covers t l m (decLe t i); only = λ x l m. holder-more (b .low) (h .only x l m) }
     where
       covers : (t : ℕ) → 1 ≤ t → t ≤ j → Dec (t ≤ i) → (x : ℕ) → 1 ≤ x → runOf f z t .first ≤ x → x ≤ runOf f z t .last → markOf ws x ≡ 1
       covers t l m (yes k) x p q r = h .covers t l k x p q r

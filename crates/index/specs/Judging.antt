@@ -10,7 +10,7 @@ use Rattle.paper.specs.declared.sizes.Run.{Run}
 use Rattle.paper.specs.declared.answer.Opened.{Opened}
 use Rattle.paper.specs.declared.answer.Opened.the-variants.{Opens}
 use Rattle.paper.specs.Index.{runOf, sharedAt, indexOf, openOf, Booted}
-use Rattle.entries.specs.Row.{Runs, Fits, Bare}
+use Rattle.entries.specs.Row.{Runs, Fits, Bare, Holder}
 
 -- ---- runs that rise
 
@@ -54,19 +54,11 @@ pub record Judged-to (f : List ℕ) (z : Sizes) (row : List ℕ) (i : ℕ) : Typ
 pub record Reach (z : Sizes) (ws : List ℕ) : Type 0 where
   pub long : (z .n + z .d) / 64 < length ws
 
--- record x belongs to one of the slots 1 to i
-pub record Held (run : ℕ → Run) (i x : ℕ) : Type 0 where
-  pub slot : ℕ
-  pub low : 1 ≤ slot
-  pub high : slot ≤ i
-  pub from : run slot .first ≤ x
-  pub to : x ≤ run slot .last
-
 -- the marks show the records up to n and those of the slots 1 to i, and no others
 pub record Shows (ws : List ℕ) (n : ℕ) (run : ℕ → Run) (i : ℕ) : Type 0 where
   pub low : (x : ℕ) → x ≤ n → markOf ws x ≡ 1
   pub covers : (t : ℕ) → 1 ≤ t → t ≤ i → (x : ℕ) → 1 ≤ x → run t .first ≤ x → x ≤ run t .last → markOf ws x ≡ 1
-  pub only : (x : ℕ) → n < x → markOf ws x ≡ 1 → Held run i x
+  pub only : (x : ℕ) → n < x → markOf ws x ≡ 1 → Holder run i x
 
 -- from ws to vs the records of the run were marked, none of which was; every other mark is as it was
 pub record Lodged (ws vs : List ℕ) (r : Run) : Type 0 where

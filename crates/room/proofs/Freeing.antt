@@ -18,8 +18,8 @@ use Rattle.paper.specs.Store.{runFrom, freeAt, freePlace, emptySlot}
 use Rattle.paper.proofs.Opening.{Shares, share-facts, sharer-none, none-sharer, common-shares, facts-empty}
 use Rattle.paper.proofs.Free.{FreeAt, free-facts, facts-free}
 use Rattle.entries.specs.Row.{rowRun, Runs}
-use Rattle.entries.proofs.Rows.{sharer-same}
-use Rattle.room.specs.Passing.{Sought, Holder, Hints, Missed, Passed, Vacant}
+use Rattle.entries.proofs.Rows.{sharer-same, holder-same}
+use Rattle.room.specs.Passing.{Sought, Hints, Missed, Passed, Vacant}
 
 -- ---- the lowest empty slot: the slots in use are passed one by one, those above are empty
 
@@ -157,9 +157,4 @@ module _ (f : List ℕ) (z : Sizes) (row : List ℕ) (h : Runs f z row (z .u)) w
       record { wide = w; ranged = s .booted .ranged; inside = λ t l m. subst (Lies z) (sym (h .run t l m)) (s .laid .inside t l m); some = a; few = b }
 
   pub hints : (ws : List ℕ) → Hints ws z (runOf f z) → Hints ws z (rowRun row)
-  hints ws g = record { held = λ m x a b. one x (g .held m x a b) }
-    where
-      one : (x : ℕ) → Holder (runOf f z) (z .u) x → Holder (rowRun row) (z .u) x
-      one x y =
-          let e = h .run (y .slot) (y .low) (y .high) in
-          record { slot = y .slot; low = y .low; high = y .high; from = rw e (y .from); to = rw e (y .to) }
+  hints ws g = record { held = λ m x a b. holder-same (rowRun row) (runOf f z) (z .u) x (h .run) (g .held m x a b) }

@@ -9,7 +9,7 @@ use Rattle.paper.specs.declared.sizes.Run.{Run}
 use Rattle.paper.specs.Sizes.{capacityOf, Ranged}
 use Rattle.paper.specs.Index.{sharer, Lies}
 use Rattle.paper.specs.Store.{runFrom, emptySlot}
-use Rattle.entries.specs.Row.{rowRun}
+use Rattle.entries.specs.Row.{rowRun, Holder}
 
 -- the row of a file that opens, and a scan of k records
 pub record Sought (row : List ℕ) (z : Sizes) (k : ℕ) : Type 0 where
@@ -18,14 +18,6 @@ pub record Sought (row : List ℕ) (z : Sizes) (k : ℕ) : Type 0 where
   pub inside : (s : ℕ) → 1 ≤ s → s ≤ z .u → Lies z (rowRun row s)
   pub some : 1 ≤ k
   pub few : k ≤ 65536
-
--- record x belongs to one of the slots 1 to u
-pub record Holder (run : ℕ → Run) (u x : ℕ) : Type 0 where
-  pub slot : ℕ
-  pub low : 1 ≤ slot
-  pub high : slot ≤ u
-  pub from : run slot .first ≤ x
-  pub to : x ≤ run slot .last
 
 -- where record 0 is marked, each marked record past N is of a scan
 pub record Hints (ws : List ℕ) (z : Sizes) (run : ℕ → Run) : Type 0 where

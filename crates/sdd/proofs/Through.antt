@@ -44,12 +44,6 @@ begun-face a b e h = rw (taken-only (a .answer) (b .answer) e, h)
 pub step-small-of : (a b : Step) → stepSays a ≡ stepSays b → StepSmall b → StepSmall a
 step-small-of a b e h = subst StepSmall (sym (step-only a b e)) h
 
-pub told-beside : (a : Step) (c : CJob) → beside (toldOf a) c ≡ steppedC a c
-told-beside (step.Wrote r count) c = refl
-told-beside (step.Saved r count) c = refl
-told-beside (step.Cleared r count) c = refl
-told-beside (step.Refused r) c = refl
-
 saves-back : (n : ℕ) → n ≤ 1 → cond (eqb n 1) 1 0 ≡ n
 saves-back zero h = refl
 saves-back (suc zero) h = refl
@@ -103,7 +97,6 @@ module _ (f scan : List ℕ) (c : CJob) (r : CStepped) (t : Told) where
       let x : stepAnswer f scan j ≡ stepAnswer f scan (jobOf c) = ap (stepAnswer f scan) e in (
         rw (le-ltb 1 (c .saves) h)
             (q ∙ ap (λ (y : Told). beside y (onward c (s .job))) (k ∙ ap toldOf (w ∙ x)) ∙ ap (λ (y : Job). beside (toldOf (stepAnswer f scan (jobOf c))) (onward c y)) v
-            ∙ told-beside (stepAnswer f scan (jobOf c)) (onward c (stepJob f scan (jobOf c)))
             ∙ ap (steppedC (stepAnswer f scan (jobOf c))) (onward-job h)),
         rw (le-ltb 1 (c .saves) h, ← e) d,
       )

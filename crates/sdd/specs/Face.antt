@@ -121,16 +121,6 @@ abbrev pub begunC : Begun → CBegun
 begunC b = record { why = takenC (b .answer); job = jobC (b .job) }
 
 -- what was done (0 wrote a record, 1 Saved, 2 Cleared), the record and the count
-abbrev pub doneC : ℕ → ℕ → ℕ → CJob → CStepped
-doneC what r count job = record { why = none; done = what; wrote = r; written = count; job = job }
-
-abbrev pub steppedC : Step → CJob → CStepped
-steppedC (step.Wrote r count) job = doneC 0 r count job
-steppedC (step.Saved r count) job = doneC 1 r count job
-steppedC (step.Cleared r count) job = doneC 2 r count job
-steppedC (step.Refused r) job = record { why = whyOf r; done = 0; wrote = 0; written = 0; job = job }
-
--- the same without the job, and the two beside each other
 abbrev pub toldDone : ℕ → ℕ → ℕ → Told
 toldDone what r count = record { why = none; done = what; wrote = r; written = count }
 
@@ -140,8 +130,12 @@ toldOf (step.Saved r count) = toldDone 1 r count
 toldOf (step.Cleared r count) = toldDone 2 r count
 toldOf (step.Refused r) = record { why = whyOf r; done = 0; wrote = 0; written = 0 }
 
+-- the answer beside the job
 abbrev pub beside : Told → CJob → CStepped
 beside t job = record { why = t .why; done = t .done; wrote = t .wrote; written = t .written; job = job }
+
+abbrev pub steppedC : Step → CJob → CStepped
+steppedC a job = beside (toldOf a) job
 
 -- "any other value: step answers 14"
 unfoldable pub stepC : List ℕ → List ℕ → CJob → CStepped

@@ -14,7 +14,7 @@ use Rattle.paper.specs.Sizes.{capacityOf, Shaped}
 use Rattle.paper.specs.Index.{runOf, openOf, Booted}
 use Rattle.paper.specs.Store.{recordsFor, freePlace, emptySlot}
 use Rattle.paper.proofs.Opening.{open-sound, index-same}
-use Rattle.entries.specs.Row.{rowRun, Entry}
+use Rattle.entries.specs.Row.{rowRun, InFile}
 use Rattle.index.specs.Judging.{Looked}
 use Rattle.index.proofs.Answers.{index-open}
 use Rattle.room.specs.Passing.{Sought, Hints, Vacant}
@@ -36,9 +36,9 @@ rowing f row ws z y o b l q w =
     record { opens = sym (index-open f z o b (l .is)) ∙ e; looked = subst (Looked f z row ws) e l; wide = w }
 
 -- a slot of the index
-pub has-entry : (f : List ℕ) {z : Sizes} → openOf f ≡ Opens z → (slot : ℕ) → hasSlot z slot ≡ true → Entry f z slot
+pub has-slot : (f : List ℕ) {z : Sizes} → openOf f ≡ Opens z → (slot : ℕ) → hasSlot z slot ≡ true → InFile f z slot
 unfolding hasSlot
-has-entry f {z} o slot there =
+has-slot f {z} o slot there =
     let t = all-true (slotTests z slot) there in
     record { booted = open-sound o .booted; low = leb-true 1 slot (t .0); high = leb-true slot (capacityOf z) (t .1 .0) }
 
@@ -49,7 +49,7 @@ module _ (f : List ℕ) (z : Sizes) (row ws : List ℕ) (h : Rowing f z row ws) 
   pub hints : Hints ws z (rowRun row)
   hints =
       room.hints f z row (h .looked .runs) ws
-      (record { held = λ m x a b. let g = h .looked .shows m .only x a b in record { slot = g .slot; low = g .low; high = g .high; from = g .from; to = g .to } })
+      (record { held = λ m. h .looked .shows m .only })
 
   pub free-there : (first len k size : ℕ) → first ≡ freePlace z len (rowRun row) k → k ≡ recordsFor z size
       → first ≡ freePlace z len (runOf f z) (recordsFor z size)

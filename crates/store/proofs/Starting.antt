@@ -21,14 +21,14 @@ use Rattle.paper.specs.Sizes.{sizesOf, Shaped}
 use Rattle.paper.specs.Index.{runOf, empty, openChecks, openOf}
 use Rattle.paper.specs.Look.{noSlot, noScan}
 use Rattle.paper.specs.Scan.{ruledOf}
-use Rattle.paper.specs.Store.{recordsFor, freePlace, emptySlot, refused, accepted, placeFor, saveJob, clearJob, reasonOf, scanChecks, saveOf, keepSlot, keepOf, clearOf}
+use Rattle.paper.specs.Store.{savesAt, recordsFor, freePlace, emptySlot, refused, accepted, placeFor, saveJob, clearJob, reasonOf, scanChecks, saveOf, keepSlot, keepOf, clearOf}
 use Rattle.paper.proofs.Opening.{open-reads, then-refused, then-opens}
 use Rattle.paper.proofs.Rules.{keeps-lengths}
 use Rattle.paper.proofs.Reasons.{no-reason}
 use Rattle.steps.specs.Tests.{hasSlot}
 use Rattle.store.specs.declared.judged.Goal.{Goal}
 use Rattle.store.specs.declared.judged.Goal.the-variants.{Slot, LowestEmpty}
-use Rattle.store.specs.Beginning.{begunOf, refusedBy, savesAt, placedOf}
+use Rattle.store.specs.Beginning.{begunOf, refusedBy, placedOf}
 use Rattle.writes.proofs.Counts.{records-some}
 
 -- a check that fires, or is passed
@@ -73,9 +73,9 @@ module _ (f : List ℕ) (slot : ℕ) (scan about : List ℕ) (n : ℕ) (why : n 
     pub no-place : (x : Begun) → first ≡ 0 → x ≡ refused NoRoom → x ≡ placedOf f slot scan about
     no-place x e p = p ∙ fires-first _ _ [] job (eq-eqb _ _ (sym place-is ∙ e)) ∙ good-scan h
 
-    pub place-found : (x : Begun) → (first ≡ 0 → ⊥) → x ≡ accepted (savesAt f slot (length scan) first about) → x ≡ placedOf f slot scan about
+    pub place-found : (x : Begun) → (first ≡ 0 → ⊥) → x ≡ accepted (savesAt f slot scan about first) → x ≡ placedOf f slot scan about
     place-found x e p =
-        p ∙ ap (λ (r : ℕ). accepted (savesAt f slot (length scan) r about)) place-is
+        p ∙ ap (λ (r : ℕ). accepted (savesAt f slot scan about r)) place-is
         ∙ passes-first _ _ [] job (ne-eqb _ _ (λ q. e (place-is ∙ q))) ∙ good-scan h
 
   -- how many records it takes

@@ -1,15 +1,13 @@
 -- What the inner functions of save, keep and clear require and answer.
 use Prim.Native.Nat.{ℕ, _*_, _≤_}
 use mathlib.Core.Path.{_≡_}
-use mathlib.Core.Bool.{true}
 use mathlib.Core.List.{List}
-use lib.ListN.{length, take}
+use lib.ListN.{length}
 use Rattle.lent.specs.Checks.{judge}
 use Rattle.paper.specs.declared.sizes.Sizes.{Sizes}
 use Rattle.paper.specs.declared.refusal.Refusal.the-variants.{TooShort}
 use Rattle.paper.specs.declared.answer.Opened.{Opened}
 use Rattle.paper.specs.declared.answer.Opened.the-variants.{Opens, Refused}
-use Rattle.paper.specs.declared.job.Job.{Job}
 use Rattle.paper.specs.declared.job.Begun.{Begun}
 use Rattle.paper.specs.Index.{openOf}
 use Rattle.paper.specs.Store.{refused, accepted, scanChecks, saveJob, saveOf, keepOf}
@@ -27,11 +25,6 @@ pub record Rowing (f : List ℕ) (z : Sizes) (row ws : List ℕ) : Type 0 where
 abbrev pub refusedBy : Opened → Begun
 refusedBy (Opens z) = refused TooShort
 refusedBy (Refused r) = refused r
-
--- a save's job at a place
-abbrev pub savesAt : List ℕ → ℕ → ℕ → ℕ → List ℕ → Job
-savesAt f slot size first about =
-    record { saves = true; slot = slot; size = size; span = length f; first = first; written = 0; boot = take 32 f; about = about }
 
 -- 11, then 13, then the job
 unfoldable pub placedOf : List ℕ → ℕ → List ℕ → List ℕ → Begun

@@ -9,8 +9,8 @@ use paper::sizes::Sizes;
 ghost use mathlib.Core.Path.{_≡_};
 ghost use Prim.Native.Nat.{_≤_};
 ghost use lib.ListN.{length};
-ghost use Rattle.paper.specs.Store.{accepted, refused, clearJob, reasonOf, saveOf, keepOf, clearOf};
-ghost use Rattle.store.specs.Beginning.{Rowing, refusedBy, savesAt, placedOf};
+ghost use Rattle.paper.specs.Store.{savesAt, accepted, refused, clearJob, reasonOf, saveOf, keepOf, clearOf};
+ghost use Rattle.store.specs.Beginning.{Rowing, refusedBy, placedOf};
 
 // A job of zeros.
 fn refused(r: Refusal) -> Begun
@@ -52,9 +52,9 @@ fn reason(v: Ruled) -> usize
 }
 
 // A save's job at its place.
-fn save_job(file: &[u8], slot: usize, size: usize, first: usize, about: [u8; 54]) -> Begun
+fn save_job(file: &[u8], slot: usize, scan: &[u8], about: [u8; 54], first: usize) -> Begun
     requires { ⌜ 32 ≤ length (now file) ⌝ }
-    ensures { λ b. ⌜ b ≡ accepted (savesAt (now (file .entry)) slot size first about) ⌝ }
+    ensures { λ b. ⌜ b ≡ accepted (savesAt (now (file .entry)) slot (now (scan .entry)) about first) ⌝ }
 {
     let b = writes::boot::head(file);
     Begun {
@@ -62,7 +62,7 @@ fn save_job(file: &[u8], slot: usize, size: usize, first: usize, about: [u8; 54]
         job: Job {
             saves: true,
             slot,
-            size,
+            size: scan.len(),
             span: file.len(),
             first,
             written: 0,
@@ -115,7 +115,7 @@ fn place(
     if first == 0 {
         return refused(Refusal::NoRoom);
     }
-    save_job(file, slot, scan.len(), first, about)
+    save_job(file, slot, scan, about, first)
 }
 
 // A save to a slot that the crew names: 9, then the place.

@@ -1,4 +1,4 @@
-use Rattle.store.proofs.Rooms.{opens-shape, opens-long, has-entry}
+use Rattle.store.proofs.Rooms.{opens-shape, opens-long, has-slot}
 use Rattle.store.proofs.Starting.{clear-out, clear-no-slot, clear-empty, clear-on}
 use mathlib.Core.Path.{sym, _∙_}
 use borrow.Author.Tests.{not-true, not-false}
@@ -16,7 +16,7 @@ returns-2 : tie.Need-returns-2
 returns-2 c = let s = c .before .before .before .before .before .before .before .before .args in clear-no-slot (s .file .now) (s .slot) _ (c .before .before .before .before .before .before .judge .ensures) _ _ (c .before .before .before .before .o .given .1) (sym (c .before .before .has-slot .ensures) ∙ not-true _ (c .before .if1 .taken)) (c .refused .ensures)
 
 run-at-requires : tie.Need-run-at-requires
-run-at-requires c κs = has-entry (c .before .before .before .before .before .before .before .args .file .now) (sym (c .before .before .before .before .before .judge .ensures) ∙ c .before .before .before .o .given .1) _ (sym (c .before .has-slot .ensures) ∙ not-false _ (c .if1 .left))
+run-at-requires c κs = has-slot (c .before .before .before .before .before .before .before .args .file .now) (sym (c .before .before .before .before .before .judge .ensures) ∙ c .before .before .before .o .given .1) _ (sym (c .before .has-slot .ensures) ∙ not-false _ (c .if1 .left))
 
 returns-3 : tie.Need-returns-3
 returns-3 c = let s = c .before .before .before .before .before .before .before .before .before .before .before .args in clear-empty (s .file .now) (s .slot) _ (c .before .before .before .before .before .before .before .before .before .judge .ensures) _ _ (c .before .before .before .before .before .before .before .o .given .1) (sym (c .before .before .before .before .before .has-slot .ensures) ∙ not-false _ (c .before .before .before .before .if1 .left)) _ (c .before .before .before .run-at .ensures .is) _ (c .before .before .empty .ensures) (c .before .if2 .taken) (c .refused2 .ensures)
