@@ -5,26 +5,16 @@ use crate::file::{File, Order, Plan};
 use crate::map::Map;
 use crate::suite::MOST;
 use face::Calls;
+use libc::{pthread_attr_init, pthread_attr_t, pthread_create, pthread_join};
 use std::ffi::{c_int, c_void};
 use std::hint::black_box;
 use std::mem::MaybeUninit;
 use std::ptr::null_mut;
 
 unsafe extern "C" {
-    fn pthread_attr_init(attr: *mut Attr) -> c_int;
-    fn pthread_attr_setstack(attr: *mut Attr, at: *mut c_void, len: usize) -> c_int;
-    fn pthread_create(
-        thread: *mut usize,
-        attr: *const Attr,
-        start: extern "C" fn(*mut c_void) -> *mut c_void,
-        of: *mut c_void,
-    ) -> c_int;
-    fn pthread_join(thread: usize, answer: *mut *mut c_void) -> c_int;
+    // the one call that the crate libc does not have
+    fn pthread_attr_setstack(attr: *mut pthread_attr_t, at: *mut c_void, len: usize) -> c_int;
 }
-
-/// At least as large as any C library's on a 64-bit Linux.
-#[repr(C, align(16))]
-struct Attr([u8; 128]);
 
 const PAINT: u8 = 0xa5;
 const STACK: usize = 2 << 20;
@@ -49,7 +39,7 @@ pub fn depth(call: &mut dyn FnMut()) -> usize {
     let mut stack = Map::new(STACK);
     stack.bytes().fill(PAINT);
     let mut work = Work { call, top: 0 };
-    let mut attr = MaybeUninit::<Attr>::uninit();
+    let mut attr = MaybeUninit::<pthread_attr_t>::uninit();
     let mut thread = 0;
     // SAFETY: the stack and the work live until the thread has ended; the attributes are set before they are used.
     unsafe {

@@ -1,8 +1,9 @@
 //! Memory between guard pages: what is lent lies flush against one of them, so
 //! that a read or write outside it ends the process or is found in the slack.
 
-use crate::sys;
-use std::ptr::{null_mut, slice_from_raw_parts, slice_from_raw_parts_mut};
+use memmap2::MmapMut;
+use std::ops::Range;
+use std::ptr::{slice_from_raw_parts, slice_from_raw_parts_mut};
 
 /// Which guard page the memory touches.
 #[derive(Clone, Copy, Debug, PartialEq, Eq)]
@@ -18,35 +19,34 @@ const SLACK: u8 = 0xa5;
 
 /// Zeroed bytes between two guard pages. Large ones cost nothing until they are touched.
 pub struct Guarded {
-    base: *mut u8,
-    mapped: usize,
+    mapped: MmapMut,
     start: usize,
     len: usize,
     page: usize,
 }
 
+/// The size of a page.
+fn page() -> usize {
+    // SAFETY: sysconf only answers.
+    unsafe { libc::sysconf(libc::_SC_PAGESIZE) as usize }
+}
+
 impl Guarded {
     /// So many zeros.
     pub fn zeros(len: usize, side: Side) -> Guarded {
-        let page = sys::page();
+        let page = page();
         let inner = len.next_multiple_of(page);
-        let mapped = inner + 2 * page;
-        let flags = sys::MAP_PRIVATE | sys::MAP_ANONYMOUS | sys::MAP_NORESERVE;
-        // SAFETY: a new mapping, of which the pages between the first and the last are opened.
-        let base = unsafe {
-            let base = sys::mmap(null_mut(), mapped, sys::PROT_NONE, flags, -1, 0);
-            assert!(base as isize != -1, "no memory for {mapped} bytes");
-            if inner > 0 {
-                let opened = sys::mprotect(base.byte_add(page), inner, sys::PROT_READ_WRITE);
-                assert!(opened == 0, "no memory for {inner} bytes");
-            }
-            base.cast::<u8>()
-        };
+        let mut mapped =
+            MmapMut::map_anon(inner + 2 * page).unwrap_or_else(|error| panic!("no memory for {inner} bytes: {error}"));
+        for guard in [0, page + inner] {
+            // SAFETY: the first and the last page of the new mapping, which nothing refers to yet.
+            let closed = unsafe { libc::mprotect(mapped.as_mut_ptr().add(guard).cast(), page, libc::PROT_NONE) };
+            assert!(closed == 0, "a guard page does not close");
+        }
         let start = if side == Side::Left { page } else { page + inner - len };
-        let mut made = Guarded { base, mapped, start, len, page };
-        let (slack, size) = made.slack();
-        // SAFETY: the slack is inside the opened pages.
-        unsafe { (*slice_from_raw_parts_mut(made.base.add(slack), size)).fill(SLACK) };
+        let mut made = Guarded { mapped, start, len, page };
+        let slack = made.slack();
+        made.part_mut(slack).fill(SLACK);
         made
     }
 
@@ -57,41 +57,41 @@ impl Guarded {
         made
     }
 
-    /// Where the opened bytes that are not lent begin, and how many there are.
-    fn slack(&mut self) -> (usize, usize) {
-        let size = self.mapped - 2 * self.page - self.len;
-        if self.start == self.page { (self.page + self.len, size) } else { (self.page, size) }
+    /// The opened bytes that are not lent.
+    fn slack(&self) -> Range<usize> {
+        let opened = self.page..self.mapped.len() - self.page;
+        if self.start == self.page { self.start + self.len..opened.end } else { opened.start..self.start }
+    }
+
+    /// A part between the guard pages.
+    fn part(&self, range: Range<usize>) -> &[u8] {
+        // SAFETY: opened bytes of the mapping; a slice of all of it would cover closed pages.
+        unsafe { &*slice_from_raw_parts(self.mapped.as_ptr().add(range.start), range.len()) }
+    }
+
+    fn part_mut(&mut self, range: Range<usize>) -> &mut [u8] {
+        // SAFETY: as in `part`.
+        unsafe { &mut *slice_from_raw_parts_mut(self.mapped.as_mut_ptr().add(range.start), range.len()) }
     }
 
     /// Whether nobody wrote beside what was lent.
-    pub fn slack_stands(&mut self) -> bool {
-        let (slack, size) = self.slack();
-        // SAFETY: as in `zeros`.
-        unsafe { (*slice_from_raw_parts(self.base.add(slack), size)).iter().all(|byte| *byte == SLACK) }
+    pub fn slack_stands(&self) -> bool {
+        self.part(self.slack()).iter().all(|byte| *byte == SLACK)
     }
 
     /// Where it begins; of no bytes, an address inside a guard page.
     pub fn pointer(&mut self) -> *mut u8 {
         // SAFETY: inside the mapping.
-        unsafe { self.base.add(self.start) }
+        unsafe { self.mapped.as_mut_ptr().add(self.start) }
     }
 
     /// The bytes.
     pub fn bytes(&self) -> &[u8] {
-        // SAFETY: `len` opened bytes that live as long as `self`.
-        unsafe { &*slice_from_raw_parts(self.base.add(self.start), self.len) }
+        self.part(self.start..self.start + self.len)
     }
 
     /// The bytes, to write.
     pub fn bytes_mut(&mut self) -> &mut [u8] {
-        // SAFETY: as in `bytes`.
-        unsafe { &mut *slice_from_raw_parts_mut(self.base.add(self.start), self.len) }
-    }
-}
-
-impl Drop for Guarded {
-    fn drop(&mut self) {
-        // SAFETY: the mapping that `zeros` made.
-        unsafe { sys::munmap(self.base.cast(), self.mapped) };
+        self.part_mut(self.start..self.start + self.len)
     }
 }

@@ -4,17 +4,18 @@
 //! asked of the model, then made of a [`Subject`] on memory of its own between
 //! guard pages, and the whole answer and all memory are compared. The cases
 //! come in themes; [`run`] mixes them from a seed.
+//!
+//! From the ground up: `rng` and `call`, `tally`, `world` with its subjects (`linked` on
+//! `guarded`, `recorder`), `cases`, `themes`, `run`.
 
 mod call;
-mod damage;
+mod cases;
 mod guarded;
 mod linked;
-mod make;
 mod recorder;
 mod rng;
 mod run;
 mod seed;
-mod sys;
 mod tally;
 mod themes;
 mod world;

@@ -1,6 +1,5 @@
 //! A run: rounds of the themes from a seed, until there are cases enough.
 
-use crate::sys;
 use crate::tally::Tally;
 use crate::themes::{GIANT, THEMES, Theme, WIDE};
 use crate::world::{Disagreement, Subject, World};
@@ -88,8 +87,8 @@ const FAULT: c_int = 86;
 pub fn say_where_on_a_fault() {
     // SAFETY: the handler only writes and exits.
     unsafe {
-        sys::signal(sys::SIGSEGV, fault as extern "C" fn(c_int) as usize);
-        sys::signal(sys::SIGBUS, fault as extern "C" fn(c_int) as usize);
+        libc::signal(libc::SIGSEGV, fault as extern "C" fn(c_int) as usize);
+        libc::signal(libc::SIGBUS, fault as extern "C" fn(c_int) as usize);
     }
 }
 
@@ -100,12 +99,12 @@ extern "C" fn fault(_: c_int) {
     say_number(ROUND.load(Relaxed));
     say(b"\n");
     // SAFETY: ends the process.
-    unsafe { sys::_exit(FAULT) }
+    unsafe { libc::_exit(FAULT) }
 }
 
 fn say(bytes: &[u8]) {
     // SAFETY: the pointer and the length are those of a slice.
-    unsafe { sys::write(2, bytes.as_ptr().cast(), bytes.len()) };
+    unsafe { libc::write(2, bytes.as_ptr().cast(), bytes.len()) };
 }
 
 /// A number in decimal, with nothing that a signal handler may not do.

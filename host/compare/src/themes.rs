@@ -9,8 +9,8 @@ mod files;
 mod forged;
 mod giant;
 mod histories;
-mod jobs;
 mod scans;
+mod shared;
 mod wide;
 
 use crate::world::{Round, World};

@@ -1,7 +1,7 @@
 //! The calls as a table, so that the library, the stand-in and a wrong copy of
 //! it can be tried by the same comparison.
 
-use crate::{Begun, Entry, Job, Listed, Opened, Refusal, Span, Stepped};
+use crate::answers::{Begun, Entry, Job, Listed, Opened, Refusal, Span, Stepped};
 
 /// The twelve calls of the header, in its order. A slice is a pointer and then
 /// a length; `about` is a pointer to 54 bytes.

@@ -1,7 +1,7 @@
 //! The layout that the header gives these structs on every 64-bit Linux,
 //! checked when this crate is compiled.
 
-use crate::{Begun, Entry, Job, Listed, Opened, Refusal, Span, Stepped};
+use crate::answers::{Begun, Entry, Job, Listed, Opened, Refusal, Span, Stepped};
 use std::mem::{offset_of, size_of};
 
 const _: () = {

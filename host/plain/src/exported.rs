@@ -1,7 +1,8 @@
 //! The calls with the C face: pointers to slices, answers to structs of numbers.
 
-use crate::boot::Answer;
-use crate::{index, look, store};
+use crate::calls::{look, store};
+use crate::rules::boot::Answer;
+use crate::rules::index;
 use face::{Begun, Calls, Entry, Job, Listed, Opened, Refusal, Span, Stepped};
 use std::slice::{from_raw_parts, from_raw_parts_mut};
 

@@ -7,15 +7,14 @@
 //!
 //! Every function has a parameter `X`, the number of the line that is wrong; 0
 //! is none. It is a constant, so the right copy carries no trace of the others.
+//!
+//! From the ground up, each knows only those before it: `ground`, `rules`,
+//! `calls`, `exported`, `wrong`.
 
-mod bits;
-mod boot;
-mod bytes;
+mod calls;
 mod exported;
-mod index;
-mod look;
-mod scan;
-mod store;
+mod ground;
+mod rules;
 mod wrong;
 
 pub use wrong::{Wrong, wrong_lines};

@@ -3,12 +3,6 @@
 use crate::exported;
 use face::Calls;
 
-/// The right value, but the wrong one in the copy whose wrong line has this number.
-#[inline(always)]
-pub fn or<const X: u32, T>(number: u32, right: T, wrong: T) -> T {
-    if X == number { wrong } else { right }
-}
-
 /// A copy of the stand-in with one line wrong.
 pub struct Wrong {
     /// The line's number.

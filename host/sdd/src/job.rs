@@ -1,8 +1,8 @@
 //! The calls that change a file, one record at a time.
 
-use crate::Refusal;
 use crate::linked::calls;
 use crate::look::accepted;
+use crate::refusal::Refusal;
 
 /// An entry's bytes 8 to 61, as they are to stand in the file.
 pub type About = [u8; 54];

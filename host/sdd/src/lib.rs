@@ -38,12 +38,9 @@ mod sizes;
 
 pub use entry::{Entry, Kind, Real4, Real8};
 pub use job::{About, Job, Step, blank, clear, keep, save, step};
-pub use look::{Listed, class, classes, data, entry, list, open, read, show};
+pub use look::{Listed, Span, class, classes, data, entry, list, open, read, show};
 pub use refusal::{Refusal, Rule};
 pub use sizes::Sizes;
-
-/// Bytes `start` to `end` of what was lent.
-pub type Span = std::ops::Range<usize>;
 
 /// The table of calls that this crate was linked with, for the comparison with the model.
 #[doc(hidden)]

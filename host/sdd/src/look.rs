@@ -1,7 +1,12 @@
 //! The calls that only look.
 
+use crate::entry::Entry;
 use crate::linked::calls;
-use crate::{Entry, Refusal, Sizes, Span};
+use crate::refusal::Refusal;
+use crate::sizes::Sizes;
+
+/// Bytes `start` to `end` of what was lent.
+pub type Span = std::ops::Range<usize>;
 
 /// A scan in a list.
 #[derive(Clone, Copy, Debug, PartialEq, Eq)]

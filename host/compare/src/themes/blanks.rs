@@ -1,7 +1,7 @@
 //! Blank files.
 
 use crate::call::Call;
-use crate::make::small_shape;
+use crate::cases::make::small_shape;
 use crate::world::{Round, World};
 
 pub fn round(world: &mut World) -> Round {

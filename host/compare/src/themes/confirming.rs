@@ -1,9 +1,9 @@
 //! Files and scans changed between the steps of a job, most of all before the confirming one.
 
-use super::{files, jobs};
+use super::shared::{jobs, slots};
 use crate::call::Call;
-use crate::damage;
-use crate::make::{Shape, home};
+use crate::cases::damage;
+use crate::cases::shape::{Shape, home};
 use crate::world::{Round, World};
 use face::Job;
 
@@ -84,9 +84,9 @@ fn other_scan(world: &mut World, job: Job) -> Round {
 
 /// Two jobs begun on the same file: the second is run, then the first is stepped.
 fn interleaved(world: &mut World, shape: &Shape) -> Round {
-    let slot = files::any_slot(world, shape);
+    let slot = slots::any(world, shape);
     let Some(mut one) = world.begin(Call::Clear { slot })? else { return Ok(()) };
-    let slot = files::any_slot(world, shape);
+    let slot = slots::any(world, shape);
     let Some(mut two) = world.begin(Call::Clear { slot })? else { return Ok(()) };
     world.set_scan(Vec::new());
     if world.rng.percent(50) {

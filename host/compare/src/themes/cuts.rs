@@ -2,9 +2,10 @@
 //! answers to demand 3: the slot is as before until the index record is
 //! written, and from then on it is as the job leaves it.
 
-use super::{histories, jobs};
+use super::histories;
+use super::shared::jobs;
 use crate::call::{Answer, Call};
-use crate::make::Shape;
+use crate::cases::shape::Shape;
 use crate::world::{Disagreement, Round, World};
 use face::Job;
 

@@ -2,7 +2,8 @@
 
 use super::files;
 use crate::call::Call;
-use crate::make::{self, Shape, get32, home, put32};
+use crate::cases::make;
+use crate::cases::shape::{Shape, get32, home, put32};
 use crate::rng::Rng;
 use crate::world::{Round, World};
 

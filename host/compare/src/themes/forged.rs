@@ -1,7 +1,7 @@
 //! Jobs forged in every field, at every stage.
 
-use super::jobs;
-use crate::make;
+use super::shared::jobs;
+use crate::cases::shape::get32;
 use crate::world::{Round, World};
 use face::Job;
 
@@ -38,8 +38,8 @@ fn try_and_undo(world: &mut World, forged: Job) -> Round {
 
 /// The job with one field changed, to an edge more often than not.
 fn forge(world: &mut World, job: Job, field: u64) -> Job {
-    let (n, l) = (make::get32(&world.file, 0), make::get32(&world.file, 8));
-    let capacity = (n - 1) * l / make::get32(&world.file, 12);
+    let (n, l) = (get32(&world.file, 0), get32(&world.file, 8));
+    let capacity = (n - 1) * l / get32(&world.file, 12);
     let room = job.file_len / l;
     let k = job.scan_len.div_ceil(l);
     let rng = &mut world.rng;

@@ -1,8 +1,10 @@
 //! A file with room for more than 1,000,000 records: memory that is there only where it is touched.
 
-use super::{files, jobs};
+use super::files;
+use super::shared::jobs;
 use crate::call::Call;
-use crate::make::{self, Shape, put32};
+use crate::cases::make;
+use crate::cases::shape::{Shape, put32};
 use crate::world::{Round, World};
 
 const MOST: u64 = 1_000_000;

@@ -1,8 +1,9 @@
 //! Whole histories of saves, keeps and clears, each cut off anywhere.
 
-use super::{files, jobs};
+use super::shared::{jobs, slots};
 use crate::call::Call;
-use crate::make::{self, Shape};
+use crate::cases::make;
+use crate::cases::shape::Shape;
 use crate::world::{Round, World};
 use face::Job;
 
@@ -36,7 +37,7 @@ fn begin_on_blank(world: &mut World) -> Round<Shape> {
 }
 
 fn any_job(world: &mut World, shape: &Shape) -> Call {
-    let slot = files::any_slot(world, shape);
+    let slot = slots::any(world, shape);
     match world.rng.below(10) {
         0..=4 => Call::Save { slot },
         5..=6 => Call::Keep,
@@ -59,7 +60,7 @@ pub fn look(world: &mut World, shape: &Shape) -> Round {
     world.call(Call::Open)?;
     world.call(Call::List { out_len: 3 * shape.capacity() as usize })?;
     for _ in 0..2 {
-        let slot = files::any_slot(world, shape);
+        let slot = slots::any(world, shape);
         world.call(Call::Show { slot })?;
         world.call(Call::Entry { slot })?;
     }

@@ -1,8 +1,8 @@
 //! Runs of bytes: the rules, the classes and the data.
 
 use crate::call::Call;
+use crate::cases::{damage, make};
 use crate::world::{Round, World};
-use crate::{damage, make};
 
 pub fn round(world: &mut World) -> Round {
     let rng = &mut world.rng;

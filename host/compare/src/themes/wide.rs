@@ -1,9 +1,10 @@
 //! Files with up to 4,096 slots.
 
-use super::{files, jobs};
+use super::files;
+use super::shared::jobs;
 use crate::call::Call;
+use crate::cases::{damage, make};
 use crate::world::{Round, World};
-use crate::{damage, make};
 
 pub fn round(world: &mut World) -> Round {
     let rng = &mut world.rng;

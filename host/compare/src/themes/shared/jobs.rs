@@ -1,9 +1,9 @@
 //! What the themes do with jobs.
 
-use super::files;
+use super::slots;
 use crate::call::Call;
-use crate::damage;
-use crate::make::{self, Shape};
+use crate::cases::shape::Shape;
+use crate::cases::{damage, make};
 use crate::world::{Round, World};
 use face::Job;
 
@@ -37,7 +37,7 @@ pub fn begin_any(world: &mut World) -> Round<Option<(Shape, Call, Job)>> {
     world.set_scan(scan);
     let about = make::about(&mut world.rng);
     world.set_about(about);
-    let slot = files::any_slot(world, &shape);
+    let slot = slots::any(world, &shape);
     let call = world.rng.pick(&[Call::Save { slot }, Call::Save { slot }, Call::Keep, Call::Clear { slot }]);
     Ok(world.begin(call)?.map(|job| (shape, call, job)))
 }

@@ -1,7 +1,7 @@
 //! The bootstrap: refusals 1 to 5, and what follows from the sizes.
 
-use crate::bytes::be32;
-use crate::wrong::or;
+use crate::ground::bytes::be32;
+use crate::ground::line::or;
 use face::Refusal;
 
 pub type Answer<T> = Result<T, Refusal>;

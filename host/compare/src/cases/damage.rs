@@ -1,6 +1,6 @@
 //! Damage: to scans at every rule, to files at every refusal.
 
-use crate::make::{Shape, get32, home, put32};
+use crate::cases::shape::{Shape, get32, home, put32};
 use crate::rng::Rng;
 
 fn half(bytes: &[u8], at: usize) -> i16 {

@@ -1,9 +1,9 @@
 //! The index judged in one pass: refusals 6 to 8.
 
-use crate::bits::Bits;
-use crate::boot::{Answer, Sizes, bootstrap, refuse};
-use crate::bytes::be64;
-use crate::wrong::or;
+use crate::ground::bits::Bits;
+use crate::ground::bytes::be64;
+use crate::ground::line::or;
+use crate::rules::boot::{Answer, Sizes, bootstrap, refuse};
 
 /// First and last record of an entry.
 #[derive(Clone, Copy)]

@@ -1,11 +1,11 @@
 //! Blank, save, keep, clear and step.
 
-use crate::boot::{Answer, Sizes, bootstrap, refuse};
-use crate::bytes::put32;
-use crate::index::{Judged, Run, judge, listed};
-use crate::look::occupied;
-use crate::scan::rules;
-use crate::wrong::or;
+use crate::calls::look::occupied;
+use crate::ground::bytes::put32;
+use crate::ground::line::or;
+use crate::rules::boot::{Answer, Sizes, bootstrap, refuse};
+use crate::rules::index::{Judged, Run, judge, listed};
+use crate::rules::scan::rules;
 use face::{Job, Refusal, Stepped};
 
 pub fn blank<const X: u32>(file: &mut [u8], n: u64, l: u64, m: u64) -> Answer<()> {

@@ -1,23 +1,9 @@
-//! Files, scans and entries that are as they should be; `damage` does the rest.
+//! Files, scans and entries that are as they should be, but for a scan in a file now and then.
 
+use crate::cases::damage;
+use crate::cases::shape::{Shape, home, put32};
 use crate::rng::Rng;
 use model::About;
-
-/// N, L and M.
-#[allow(missing_docs)]
-#[derive(Clone, Copy, Debug)]
-pub struct Shape {
-    pub n: u64,
-    pub l: u64,
-    pub m: u64,
-}
-
-impl Shape {
-    /// The number of slots.
-    pub fn capacity(&self) -> u64 {
-        (self.n - 1) * self.l / self.m
-    }
-}
 
 /// A shape for a file of some kilobytes.
 pub fn small_shape(rng: &mut Rng) -> Shape {
@@ -41,21 +27,6 @@ pub fn wide_shape(rng: &mut Rng) -> Shape {
         3 => Shape { n: 129, l: 512, m: 64 },
         _ => Shape { n: rng.between(200, 240), l: 1_088, m: 64 },
     }
-}
-
-/// Puts a number into 32 bits.
-pub fn put32(bytes: &mut [u8], at: usize, number: u64) {
-    bytes[at..at + 4].copy_from_slice(&(number as u32).to_be_bytes());
-}
-
-/// The number in 32 bits.
-pub fn get32(bytes: &[u8], at: usize) -> u64 {
-    u64::from(u32::from_be_bytes(bytes[at..at + 4].try_into().unwrap()))
-}
-
-/// Where a slot's entry begins.
-pub fn home(shape: &Shape, slot: u64) -> usize {
-    (shape.l + (slot - 1) * shape.m) as usize
 }
 
 /// Puts the runs of some scans into the index; the rest of each entry stays random.
@@ -90,7 +61,7 @@ fn put_scan(rng: &mut Rng, run: &mut [u8]) {
     }
     let mut made = scan(rng, run.len());
     if rng.percent(25) {
-        crate::damage::scan_numbers(rng, &mut made);
+        damage::scan_numbers(rng, &mut made);
     }
     run[..made.len()].copy_from_slice(&made);
 }

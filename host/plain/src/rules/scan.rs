@@ -1,8 +1,8 @@
 //! The rules over a run of bytes, and the classes.
 
-use crate::boot::{Answer, refuse};
-use crate::bytes::{be16, be64};
-use crate::wrong::or;
+use crate::ground::bytes::{be16, be64};
+use crate::ground::line::or;
+use crate::rules::boot::{Answer, refuse};
 
 pub struct Shape {
     count: usize,

@@ -1,10 +1,10 @@
 //! List, entry, show, read, class and data.
 
-use crate::boot::{Answer, Sizes, refuse};
-use crate::bytes::{be16, be32, be64};
-use crate::index::{Run, judge, listed};
-use crate::scan::rules;
-use crate::wrong::or;
+use crate::ground::bytes::{be16, be32, be64};
+use crate::ground::line::or;
+use crate::rules::boot::{Answer, Sizes, refuse};
+use crate::rules::index::{Run, judge, listed};
+use crate::rules::scan::rules;
 use face::{Entry, Refusal};
 
 /// Fills `out` with slot, first and last of each scan; answers how many scans. They are counted first only where `out`
