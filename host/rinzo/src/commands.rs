@@ -1,19 +1,36 @@
-//! The commands.
+//! What each command does. `run` knows them all; they know the floors below, `demo` also those that it shows.
 
-pub mod blank;
-pub mod bytes;
-pub mod check;
-pub mod classes;
-pub mod demo;
-pub mod entry;
-pub mod job;
-pub mod list;
+mod about;
+mod blank;
+mod bytes;
+mod change;
+mod check;
+mod classes;
+mod demo;
+mod entry;
+mod list;
+mod pages;
 
-use crate::disk::Disk;
-use crate::failure::Failure;
-use std::path::Path;
+use crate::say::failure::Failure;
+use crate::say::out::Out;
+use crate::words::args::Args;
+use crate::words::table::Verb;
 
-/// All bytes of a file that is only looked at.
-fn look_at(path: &Path) -> Result<Vec<u8>, Failure> {
-    Disk::to_read(path)?.bytes()
+/// Does what the verb says.
+pub fn run(verb: Verb, args: &Args, out: &Out) -> Result<(), Failure> {
+    match verb {
+        Verb::Blank => blank::run(args, out),
+        Verb::Check => check::run(args, out),
+        Verb::Classes => classes::run(args, out),
+        Verb::Clear => change::clear(args, out),
+        Verb::Completion => pages::completion(args, out),
+        Verb::Demo => demo::run(args, out),
+        Verb::Entry => entry::run(args, out),
+        Verb::Keep => change::keep(args, out),
+        Verb::List => list::run(args, out),
+        Verb::Manual => pages::manual(out),
+        Verb::Read => bytes::read(args, out),
+        Verb::Save => change::save(args, out),
+        Verb::Show => bytes::show(args, out),
+    }
 }

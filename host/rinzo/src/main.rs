@@ -2,27 +2,28 @@
 //!
 //! The work is the library's; this program brings bytes from a file to it and
 //! each record that it names back to the file, durably and one at a time.
+//!
+//! The folders are floors. From the ground up, each knows only those before it:
+//! `say`, `words`, `file`, `job`, `commands`.
 
-mod about;
-mod args;
 mod commands;
-mod device;
-mod disk;
-mod drill;
-mod failure;
-mod grammar;
-mod json;
-mod out;
-mod sys;
+mod file;
+mod job;
+mod say;
+mod words;
 
-use failure::Failure;
-use out::Out;
+use say::failure::Failure;
+use say::out::Out;
+use std::ffi::OsString;
 use std::process::ExitCode;
+use words::nearest::hint;
+use words::table::{COMMANDS, Command, find};
+use words::{args, help};
 
 fn main() -> ExitCode {
-    sys::ignore_file_size_signal();
+    file::sys::ignore_file_size_signal();
     let words: Vec<_> = std::env::args_os().skip(1).collect();
-    let out = Out { json: words.iter().any(|word| word == "--json") };
+    let out = Out { json: words.iter().take_while(|word| *word != "--").any(|word| word == "--json") };
     match run(&words, &out) {
         Ok(()) => ExitCode::SUCCESS,
         Err(failure) => {
@@ -33,24 +34,33 @@ fn main() -> ExitCode {
 }
 
 /// Finds the command, or the help that is asked for.
-fn run(words: &[std::ffi::OsString], out: &Out) -> Result<(), Failure> {
-    let wants_help = |word: &std::ffi::OsString| word == "--help" || word == "-h";
-    match words.iter().map(|word| word.to_str()).next() {
-        None => Err(Failure::Usage("no command is given. `rinzo --help` lists them".to_string())),
-        Some(Some("--help" | "-h")) => out.lines(&grammar::overview()),
-        Some(Some("--version")) => out.lines(concat!("rinzo ", env!("CARGO_PKG_VERSION"))),
-        Some(Some("help")) => match words.get(1).and_then(|word| word.to_str()).and_then(grammar::find) {
-            Some(command) => out.lines(&command.help()),
-            None => out.lines(&grammar::overview()),
+fn run(words: &[OsString], out: &Out) -> Result<(), Failure> {
+    let Some(first) = words.first() else {
+        return Err(Failure::Usage("no command is given. `rinzo --help` lists them".to_string()));
+    };
+    match first.to_str() {
+        Some("--help" | "-h") => out.lines(&help::overview()),
+        Some("--version") => out.lines(concat!("rinzo ", env!("CARGO_PKG_VERSION"))),
+        Some("help") => match words.get(1) {
+            Some(name) => out.lines(&help::of(command(name)?)),
+            None => out.lines(&help::overview()),
         },
-        Some(name) => {
-            let Some(command) = name.and_then(grammar::find) else {
-                return Err(Failure::Usage(format!("{} is no command. `rinzo --help` lists them", words[0].display())));
-            };
-            if words.iter().any(wants_help) {
-                return out.lines(&command.help());
+        _ => {
+            let command = command(first)?;
+            match args::parse(command, &words[1..])? {
+                Some(args) => commands::run(command.verb, &args, out),
+                None => out.lines(&help::of(command)),
             }
-            (command.run)(&args::parse(command, &words[1..])?, out)
         }
     }
+}
+
+/// The command of this name.
+fn command(name: &OsString) -> Result<&'static Command, Failure> {
+    let name = name.to_string_lossy();
+    find(&name).ok_or_else(|| {
+        let near = hint(&name, "", COMMANDS.iter().map(|command| command.name));
+        let end = if near.is_empty() { "." } else { "" };
+        Failure::Usage(format!("{name} is no command{near}{end} `rinzo --help` lists them"))
+    })
 }

@@ -1,8 +1,8 @@
 //! An entry's bytes 8 to 61, from the command line and for people.
 
-use crate::args::Args;
-use crate::disk::small_file;
-use crate::failure::Failure;
+use crate::file::open::small_file;
+use crate::say::failure::Failure;
+use crate::words::args::Args;
 use sdd::About;
 use std::path::Path;
 

@@ -1,14 +1,13 @@
 //! `rinzo blank`: makes a file without scans.
 
-use crate::args::Args;
-use crate::device::read_back;
-use crate::disk::{Disk, sync_folder_of, uninterrupted};
-use crate::failure::Failure;
-use crate::json::Json;
-use crate::out::Out;
-use crate::sys;
-use std::io::{self, ErrorKind};
-use std::os::unix::fs::FileExt;
+use crate::file::device::Device;
+use crate::file::lent::{cannot_be_read, read_back};
+use crate::file::open::{sync_folder_of, to_make};
+use crate::say::failure::Failure;
+use crate::say::json::Json;
+use crate::say::out::Out;
+use crate::words::args::Args;
+use std::io;
 use std::path::Path;
 
 /// What a blank file is to be.
@@ -35,21 +34,21 @@ pub fn run(args: &Args, out: &Out) -> Result<(), Failure> {
 pub fn blank(path: &Path, wanted: &Wanted, out: &Out) -> Result<(), Failure> {
     // refused before a file is made or touched
     let records = blank_records(wanted)?;
-    let disk = Disk::to_make(path)?;
-    let len = disk.len()?;
+    let device = to_make(path)?;
+    let len = device.len().map_err(|error| cannot_be_read(&device, &error))?;
     if len > 0 && !wanted.force {
         return Err(Failure::Exists(format!(
             "{} has {len} bytes: give another name, or --force to lose what it holds",
             path.display()
         )));
     }
-    grow(&disk, len, wanted.room.saturating_mul(wanted.l))?;
-    write_records(&disk, &records, wanted.l as usize)
-        .map_err(|error| disk.failed("it could not be blanked, do it again with --force", &error))?;
+    grow(&device, len, wanted.room.saturating_mul(wanted.l))?;
+    write_records(&device, &records, wanted.l as usize)
+        .map_err(|error| failed(&device, "it could not be blanked, do it again with --force", &error))?;
     sync_folder_of(path)?;
 
-    let (bytes, way) = read_back(&disk)?;
-    let sizes = sdd::open(&bytes)?;
+    let (window, way) = read_back(&device, |_| 0..0, out)?;
+    let sizes = sdd::open(window.bytes())?;
     if !wanted.l.is_multiple_of(512) {
         out.remark("records that are no multiple of 512 bytes share the device's sectors: see docs/HOST.md");
     }
@@ -83,22 +82,24 @@ fn blank_records(wanted: &Wanted) -> Result<Vec<u8>, Failure> {
     Ok(records)
 }
 
-/// Makes the file at least so long, with space on the device where the file system can say so.
-fn grow(disk: &Disk, len: u64, wanted: u64) -> Result<(), Failure> {
+/// Makes the file at least so long.
+fn grow(device: &Device, len: u64, wanted: u64) -> Result<(), Failure> {
     if len >= wanted {
         return Ok(());
     }
-    let grown = match uninterrupted(|| sys::allocate(&disk.file, wanted)) {
-        Err(error) if error.kind() == ErrorKind::Unsupported => disk.file.set_len(wanted),
-        other => other,
-    };
-    grown.map_err(|error| disk.failed("it could not be given that room", &error))
+    device.grow(wanted).map_err(|error| failed(device, "it could not be given that room", &error))
 }
 
 /// The index first and record 1 last: until then a new file is no SDD file.
-fn write_records(disk: &Disk, records: &[u8], l: usize) -> io::Result<()> {
-    disk.file.write_all_at(&records[l..], l as u64)?;
-    uninterrupted(|| disk.file.sync_all())?;
-    disk.write_durably(0, &records[..l])?;
-    uninterrupted(|| disk.file.sync_all())
+fn write_records(device: &Device, records: &[u8], l: usize) -> io::Result<()> {
+    for (record, bytes) in (1..).zip(records.chunks(l)).skip(1) {
+        device.write((record - 1) * l as u64, bytes)?;
+    }
+    device.flush_with_length()?;
+    device.write(0, &records[..l])?;
+    device.flush_with_length()
+}
+
+fn failed(device: &Device, what: &str, error: &io::Error) -> Failure {
+    Failure::Io(format!("{}: {what}: {error}", device.path().display()))
 }

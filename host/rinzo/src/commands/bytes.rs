@@ -1,24 +1,31 @@
 //! `rinzo show` and `rinzo read`: bytes out of a file.
 
-use crate::args::Args;
-use crate::disk::Disk;
-use crate::failure::Failure;
-use crate::json::Json;
-use crate::out::Out;
+use crate::file::device::Device;
+use crate::file::lent::{Lent, cannot_be_read};
+use crate::say::failure::Failure;
+use crate::say::json::Json;
+use crate::say::out::Out;
+use crate::say::progress::Progress;
+use crate::words::args::Args;
+use sdd::Span;
 use std::fs::{File, OpenOptions};
 use std::io::{ErrorKind, Write};
 use std::os::unix::fs::MetadataExt;
 use std::path::Path;
 
+/// How much is handed on at a time.
+const PIECE: usize = 256 << 10;
+
 pub fn show(args: &Args, out: &Out) -> Result<(), Failure> {
-    write_out(args, out, sdd::show)
+    write_out(args, out, |lent, slot| Ok(sdd::show(lent.bytes(), slot)?))
 }
 
 pub fn read(args: &Args, out: &Out) -> Result<(), Failure> {
-    write_out(args, out, sdd::read)
+    write_out(args, out, |lent, slot| Ok(lent.scan_of(slot)??))
 }
 
-fn write_out(args: &Args, out: &Out, part: fn(&[u8], u64) -> Result<sdd::Span, sdd::Refusal>) -> Result<(), Failure> {
+/// Finds a part of the file by the window, and hands it on from the file in pieces: it may be as long as the file.
+fn write_out(args: &Args, out: &Out, part: fn(&mut Lent, u64) -> Result<Span, Failure>) -> Result<(), Failure> {
     let slot = args.slot(1)?;
     let to = args.value("out").map(Path::new);
     if to.is_none() && out.json {
@@ -27,23 +34,41 @@ fn write_out(args: &Args, out: &Out, part: fn(&[u8], u64) -> Result<sdd::Span, s
     if to.is_none() && out.is_terminal() {
         return args.wrong("the bytes would go to the screen: give --out FILE, or send them to a file or a program");
     }
-    let disk = Disk::to_read(args.path(0))?;
-    let file = disk.bytes()?;
-    let span = part(&file, slot)?;
-    let bytes = &file[span.clone()];
-    let Some(to) = to else { return out.bytes(bytes) };
-    write_file(&disk, to, args.has("force"), bytes)?;
+    let mut lent = Lent::to_read(args.path(0))?;
+    let span = part(&mut lent, slot)?;
+    let Some(to) = to else { return pieces(&lent.device, &span, out, |bytes| out.bytes(bytes)) };
+    write_file(&lent.device, to, args.has("force"), &span, out)?;
     out.answer(
-        || format!("{} bytes written to {}", bytes.len(), to.display()),
+        || format!("{} bytes written to {}", span.len(), to.display()),
         || Json::Object(vec![("from", Json::number(span.start as u64)), ("to", Json::number(span.end as u64))]),
     )
 }
 
+/// Reads a part in pieces, and hands each on.
+fn pieces(
+    device: &Device,
+    part: &Span,
+    out: &Out,
+    mut hand_on: impl FnMut(&[u8]) -> Result<(), Failure>,
+) -> Result<(), Failure> {
+    let mut progress = Progress::of_bytes(out, "written");
+    let mut piece = vec![0; PIECE.min(part.len())];
+    let mut at = part.start;
+    while at < part.end {
+        let len = PIECE.min(part.end - at);
+        device.read(at as u64, &mut piece[..len]).map_err(|error| cannot_be_read(device, &error))?;
+        hand_on(&piece[..len])?;
+        progress.went_on(len as u64);
+        at += len;
+    }
+    Ok(())
+}
+
 /// Writes a new file; an old one only by force, and never the SDD file itself.
-fn write_file(disk: &Disk, to: &Path, force: bool, bytes: &[u8]) -> Result<(), Failure> {
+fn write_file(device: &Device, to: &Path, force: bool, part: &Span, out: &Out) -> Result<(), Failure> {
     let mut made = match OpenOptions::new().write(true).create_new(true).open(to) {
         Ok(made) => made,
-        Err(error) if error.kind() == ErrorKind::AlreadyExists && force => overwrite(disk, to)?,
+        Err(error) if error.kind() == ErrorKind::AlreadyExists && force => overwrite(device, to)?,
         Err(error) if error.kind() == ErrorKind::AlreadyExists => {
             return Err(Failure::Exists(format!(
                 "{} is there already: give another name, or --force to overwrite it",
@@ -52,15 +77,15 @@ fn write_file(disk: &Disk, to: &Path, force: bool, bytes: &[u8]) -> Result<(), F
         }
         Err(error) => return Err(Failure::of(to, &error)),
     };
-    made.write_all(bytes)
-        .and_then(|()| made.sync_all())
-        .map_err(|error| Failure::Io(format!("{}: {error}", to.display())))
+    let failed = |error| Failure::Io(format!("{}: {error}", to.display()));
+    pieces(device, part, out, |bytes| made.write_all(bytes).map_err(failed))?;
+    made.sync_all().map_err(failed)
 }
 
-fn overwrite(disk: &Disk, to: &Path) -> Result<File, Failure> {
+fn overwrite(device: &Device, to: &Path) -> Result<File, Failure> {
     let failed = |error| Failure::of(to, &error);
     let file = OpenOptions::new().write(true).open(to).map_err(failed)?;
-    let (one, two) = (file.metadata().map_err(failed)?, disk.file.metadata().map_err(failed)?);
+    let (one, two) = (file.metadata().map_err(failed)?, device.file().metadata().map_err(failed)?);
     if (one.dev(), one.ino()) == (two.dev(), two.ino()) {
         return Err(Failure::Exists(format!("{} is the SDD file itself: give another name", to.display())));
     }

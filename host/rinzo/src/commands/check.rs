@@ -1,25 +1,37 @@
 //! `rinzo check`: judges a file.
 
-use super::look_at;
-use crate::args::Args;
-use crate::failure::Failure;
-use crate::json::Json;
-use crate::out::Out;
-use sdd::Sizes;
+use crate::file::lent::Lent;
+use crate::say::failure::Failure;
+use crate::say::json::Json;
+use crate::say::out::Out;
+use crate::say::progress::Progress;
+use crate::words::args::Args;
+use sdd::{Listed, Sizes};
 
 pub fn run(args: &Args, out: &Out) -> Result<(), Failure> {
-    let file = look_at(args.path(0))?;
-    let sizes = sdd::open(&file)?;
-    let scans = sdd::list(&file)?;
+    let mut lent = Lent::to_read(args.path(0))?;
+    let sizes = sdd::open(lent.bytes())?;
+    let scans = sdd::list(lent.bytes())?;
     if args.has("scans") {
-        for scan in &scans {
-            if let Err(why) = sdd::read(&file, u64::from(scan.slot)) {
-                out.remark(&format!("the scan in slot {} cannot be read", scan.slot));
-                return Err(why.into());
-            }
-        }
+        read_all(&mut lent, &scans, out)?;
     }
-    out.answer(|| text(&sizes, scans.len(), file.len()), || json(&sizes, scans.len(), file.len()))
+    let len = lent.bytes().len();
+    out.answer(|| text(&sizes, scans.len(), len), || json(&sizes, scans.len(), len))
+}
+
+fn read_all(lent: &mut Lent, scans: &[Listed], out: &Out) -> Result<(), Failure> {
+    let mut progress = Progress::of_things(out, "reading scan", scans.len());
+    for scan in scans {
+        let slot = u64::from(scan.slot);
+        if let Err(why) = lent.scan_of(slot)? {
+            drop(progress);
+            out.remark(&format!("the scan in slot {slot} cannot be read"));
+            return Err(why.into());
+        }
+        lent.forget(slot);
+        progress.went_on(1);
+    }
+    Ok(())
 }
 
 fn text(z: &Sizes, scans: usize, len: usize) -> String {

@@ -1,16 +1,18 @@
 //! `rinzo classes`: the parts of a slot's scan.
 
-use super::look_at;
-use crate::args::Args;
-use crate::failure::Failure;
-use crate::json::Json;
-use crate::out::Out;
+use crate::file::lent::Lent;
+use crate::say::failure::Failure;
+use crate::say::json::Json;
+use crate::say::out::Out;
+use crate::words::args::Args;
 use sdd::Span;
 
 pub fn run(args: &Args, out: &Out) -> Result<(), Failure> {
     let slot = args.slot(1)?;
-    let file = look_at(args.path(0))?;
-    let scan = &file[sdd::read(&file, slot)?];
+    let mut lent = Lent::to_read(args.path(0))?;
+    let span = lent.scan_of(slot)??;
+    lent.look_into(span.clone())?;
+    let scan = &lent.bytes()[span];
     let classes = sdd::classes(scan)?;
     let data = sdd::data(scan)?;
     out.answer(|| text(&classes, &data), || json(&classes, &data))

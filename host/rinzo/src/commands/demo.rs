@@ -1,11 +1,11 @@
 //! `rinzo demo`: a whole wash job on a fresh file.
 
 use super::blank::{Wanted, blank};
-use super::job::save_scan;
+use super::change::save_scan;
 use super::list::list;
-use crate::args::Args;
-use crate::failure::Failure;
-use crate::out::Out;
+use crate::say::failure::Failure;
+use crate::say::out::Out;
+use crate::words::args::Args;
 use std::path::{Path, PathBuf};
 
 /// A file that is removed at the end, unless it was asked for.

@@ -1,18 +1,18 @@
 //! `rinzo entry`: the index entry of a slot.
 
+use super::about::source_text;
 use super::list::kind_name;
-use super::look_at;
-use crate::about::source_text;
-use crate::args::Args;
-use crate::failure::Failure;
-use crate::json::Json;
-use crate::out::Out;
+use crate::file::lent::Lent;
+use crate::say::failure::Failure;
+use crate::say::json::Json;
+use crate::say::out::Out;
+use crate::words::args::Args;
 use sdd::{Entry, Kind, Real4, Real8};
 
 pub fn run(args: &Args, out: &Out) -> Result<(), Failure> {
     let slot = args.slot(1)?;
-    let file = look_at(args.path(0))?;
-    let entry = sdd::entry(&file, slot)?;
+    let lent = Lent::to_read(args.path(0))?;
+    let entry = sdd::entry(lent.bytes(), slot)?;
     out.answer(|| text(slot, &entry), || json(slot, &entry))
 }
 

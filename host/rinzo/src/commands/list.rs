@@ -1,11 +1,12 @@
 //! `rinzo list`: the scans of a file, in the lister's form.
 
-use super::look_at;
-use crate::about::source_text;
-use crate::args::Args;
-use crate::failure::Failure;
-use crate::json::Json;
-use crate::out::Out;
+use super::about::source_text;
+use crate::file::lent::Lent;
+use crate::say::failure::Failure;
+use crate::say::json::Json;
+use crate::say::out::Out;
+use crate::say::progress::Progress;
+use crate::words::args::Args;
 use sdd::{Entry, Kind, Listed, Sizes};
 use std::path::Path;
 
@@ -15,18 +16,29 @@ pub fn run(args: &Args, out: &Out) -> Result<(), Failure> {
 
 /// Lists a file.
 pub fn list(path: &Path, long: bool, out: &Out) -> Result<(), Failure> {
-    let file = look_at(path)?;
-    let sizes = sdd::open(&file)?;
+    let mut lent = Lent::to_read(path)?;
+    let sizes = sdd::open(lent.bytes())?;
+    let scans = sdd::list(lent.bytes())?;
+    let mut progress = Progress::of_things(out, "looking into scan", if long { scans.len() } else { 0 });
     let mut rows = Vec::new();
-    for scan in sdd::list(&file)? {
-        let entry = if long { Some(sdd::entry(&file, u64::from(scan.slot))?) } else { None };
-        let bytes = sdd::read(&file, u64::from(scan.slot)).ok().map(|span| span.len());
-        rows.push((scan, entry, bytes));
+    for scan in scans {
+        let seen = if long { Some(look_into(&mut lent, u64::from(scan.slot))?) } else { None };
+        rows.push((scan, seen));
+        progress.went_on(1);
     }
+    drop(progress);
     out.answer(|| text(&sizes, &rows), || json(&sizes, &rows))
 }
 
-type Row = (Listed, Option<Entry>, Option<usize>);
+/// A scan, and for a long list its entry and its bytes, where it can be read.
+type Row = (Listed, Option<(Entry, Option<usize>)>);
+
+fn look_into(lent: &mut Lent, slot: u64) -> Result<(Entry, Option<usize>), Failure> {
+    let entry = sdd::entry(lent.bytes(), slot)?;
+    let bytes = lent.scan_of(slot)?.ok().map(|span| span.len());
+    lent.forget(slot);
+    Ok((entry, bytes))
+}
 
 /// The name of an entry's kind.
 pub fn kind_name(kind: &Kind) -> &'static str {
@@ -39,9 +51,9 @@ pub fn kind_name(kind: &Kind) -> &'static str {
 
 fn text(sizes: &Sizes, rows: &[Row]) -> String {
     let mut text = format!("slots {} used {} scans {}", sizes.capacity, sizes.u, rows.len());
-    for (scan, entry, bytes) in rows {
+    for (scan, seen) in rows {
         text += &format!("\n{} {} {}", scan.slot, scan.first, scan.last);
-        if let Some(entry) = entry {
+        if let Some((entry, bytes)) = seen {
             let bytes = bytes.map_or("unreadable".to_string(), |bytes| format!("{bytes} bytes"));
             text += &format!("  {bytes}  {}  {}", kind_name(&entry.kind), source_text(&entry.source));
         }
@@ -50,13 +62,13 @@ fn text(sizes: &Sizes, rows: &[Row]) -> String {
 }
 
 fn json(sizes: &Sizes, rows: &[Row]) -> Json {
-    let scans = rows.iter().map(|(scan, entry, bytes)| {
+    let scans = rows.iter().map(|(scan, seen)| {
         let mut fields = vec![
             ("slot", Json::number(scan.slot)),
             ("first", Json::number(scan.first)),
             ("last", Json::number(scan.last)),
         ];
-        if let Some(entry) = entry {
+        if let Some((entry, bytes)) = seen {
             fields.push(("bytes", bytes.map_or(Json::Plain("null".to_string()), |bytes| Json::number(bytes as u64))));
             fields.push(("kind", Json::text(kind_name(&entry.kind))));
             fields.push(("source", Json::text(source_text(&entry.source))));

@@ -1,59 +1,40 @@
-//! The few calls of the C library that std does not have. All `unsafe` of the program is here.
+//! The few calls of the system that std does not have. All `unsafe` of the program is here and in `window`.
 
-use std::ffi::{c_int, c_long, c_void};
+use memmap2::MmapOptions;
+use std::ffi::c_int;
 use std::fs::File;
 use std::io;
+use std::ops::Range;
 use std::os::fd::AsRawFd;
-use std::ptr::null_mut;
-
-unsafe extern "C" {
-    fn posix_fadvise(fd: c_int, offset: i64, len: i64, advice: c_int) -> c_int;
-    fn fallocate(fd: c_int, mode: c_int, offset: i64, len: i64) -> c_int;
-    fn fstatfs(fd: c_int, into: *mut c_long) -> c_int;
-    fn mmap(at: *mut c_void, len: usize, prot: c_int, flags: c_int, fd: c_int, offset: i64) -> *mut c_void;
-    fn munmap(at: *mut c_void, len: usize) -> c_int;
-    fn mincore(at: *mut c_void, len: usize, pages: *mut u8) -> c_int;
-    fn sysconf(name: c_int) -> c_long;
-    fn signal(number: c_int, handler: usize) -> usize;
-    fn kill(process: c_int, signal: c_int) -> c_int;
-    fn getpid() -> c_int;
-}
-
-/// Opens a file past the page cache. The number is the processor's own.
-#[cfg(any(target_arch = "aarch64", target_arch = "arm"))]
-pub const O_DIRECT: c_int = 0o200_000;
-#[cfg(not(any(target_arch = "aarch64", target_arch = "arm")))]
-pub const O_DIRECT: c_int = 0o40_000;
-
-/// Opens a file without waiting.
-pub const O_NONBLOCK: c_int = 0o4_000;
-
-const POSIX_FADV_DONTNEED: c_int = 4;
-const TMPFS_MAGIC: c_long = 0x0102_1994;
-const RAMFS_MAGIC: c_long = 0x8584_58f6;
-const PROT_READ: c_int = 1;
-const MAP_SHARED: c_int = 1;
-const SC_PAGESIZE: c_int = 30;
-const SIGKILL: c_int = 9;
-const SIGXFSZ: c_int = 25;
-const SIG_IGN: usize = 1;
 
 /// A write past the limit on file sizes is to come back as an error, not to end the program.
 pub fn ignore_file_size_signal() {
     // SAFETY: sets a signal to be ignored.
-    unsafe { signal(SIGXFSZ, SIG_IGN) };
+    unsafe { libc::signal(libc::SIGXFSZ, libc::SIG_IGN) };
 }
 
-/// Asks the system to forget what it holds of a file in memory.
-pub fn drop_cache(file: &File) {
+/// Has the first Ctrl-C call `handler`; the next one ends the program, as it does by itself.
+pub fn on_first_interrupt(handler: extern "C" fn(c_int)) {
+    // SAFETY: a struct of numbers, for which zeros are valid; the handler is of the kind that is asked for.
+    unsafe {
+        let mut action: libc::sigaction = std::mem::zeroed();
+        action.sa_sigaction = handler as *const () as usize;
+        action.sa_flags = libc::SA_RESETHAND | libc::SA_RESTART;
+        libc::sigaction(libc::SIGINT, &action, std::ptr::null_mut());
+    }
+}
+
+/// Asks the system to forget what it holds of a part of a file in memory.
+pub fn drop_cache(file: &File, part: &Range<u64>) {
+    let (at, len) = (part.start as libc::off_t, (part.end - part.start) as libc::off_t);
     // SAFETY: advice on an open file.
-    unsafe { posix_fadvise(file.as_raw_fd(), 0, 0, POSIX_FADV_DONTNEED) };
+    unsafe { libc::posix_fadvise(file.as_raw_fd(), at, len, libc::POSIX_FADV_DONTNEED) };
 }
 
 /// Gives a file space on the device for so many bytes, and that length.
 pub fn allocate(file: &File, len: u64) -> io::Result<()> {
     // SAFETY: on an open file.
-    if unsafe { fallocate(file.as_raw_fd(), 0, 0, len as i64) } == 0 {
+    if unsafe { libc::fallocate(file.as_raw_fd(), 0, 0, len as libc::off_t) } == 0 {
         return Ok(());
     }
     Err(io::Error::last_os_error())
@@ -61,28 +42,26 @@ pub fn allocate(file: &File, len: u64) -> io::Result<()> {
 
 /// Whether the file system keeps its files in memory alone.
 pub fn is_in_memory(file: &File) -> bool {
-    // the first word is the kind of file system; the struct is shorter than this on every processor
-    let mut about = [0; 64];
-    // SAFETY: room enough for the struct.
-    let told = unsafe { fstatfs(file.as_raw_fd(), about.as_mut_ptr()) };
-    told == 0 && (about[0] == TMPFS_MAGIC || about[0] == RAMFS_MAGIC)
+    const RAMFS_MAGIC: i64 = 0x8584_58f6;
+    // SAFETY: a struct of numbers, which the call fills.
+    let (told, about) = unsafe {
+        let mut about: libc::statfs = std::mem::zeroed();
+        (libc::fstatfs(file.as_raw_fd(), &mut about), about)
+    };
+    let kind = about.f_type as i64;
+    told == 0 && (kind == libc::TMPFS_MAGIC as i64 || kind == RAMFS_MAGIC)
 }
 
-/// Whether the system holds any of the file's bytes in memory; true where it cannot be told.
-pub fn is_cached(file: &File, len: usize) -> bool {
-    if len == 0 {
-        return false;
-    }
-    // SAFETY: a mapping of this file that is looked at by mincore alone and taken down again;
-    // there is a byte for each of its pages.
+/// Whether the system holds any byte of a part of a file in memory; true where it cannot be told.
+/// The part begins at a page's beginning.
+pub fn is_cached(file: &File, part: &Range<u64>) -> bool {
+    let len = (part.end - part.start) as usize;
+    // SAFETY: a mapping through which nothing is read: it is the name of these pages for mincore,
+    // which has a byte for each of them. So a file that is cut short under it does no harm.
     unsafe {
-        let at = mmap(null_mut(), len, PROT_READ, MAP_SHARED, file.as_raw_fd(), 0);
-        if at as isize == -1 {
-            return true;
-        }
-        let mut pages = vec![0; len.div_ceil(sysconf(SC_PAGESIZE) as usize)];
-        let told = mincore(at, len, pages.as_mut_ptr());
-        munmap(at, len);
+        let Ok(mapped) = MmapOptions::new().offset(part.start).len(len).map(file) else { return true };
+        let mut pages = vec![0; len.div_ceil(libc::sysconf(libc::_SC_PAGESIZE) as usize)];
+        let told = libc::mincore(mapped.as_ptr().cast_mut().cast(), len, pages.as_mut_ptr());
         told != 0 || pages.iter().any(|page| page & 1 == 1)
     }
 }
@@ -90,6 +69,6 @@ pub fn is_cached(file: &File, len: usize) -> bool {
 /// Ends this process as a power cut would: at once, with nothing tidied up.
 pub fn stop_dead() -> ! {
     // SAFETY: a signal to this process.
-    unsafe { kill(getpid(), SIGKILL) };
+    unsafe { libc::kill(libc::getpid(), libc::SIGKILL) };
     unreachable!("a process outlived SIGKILL")
 }

@@ -2,9 +2,11 @@
 //!
 //! `RINZO_DRILL=stop:I` ends the process, as a power cut would, once I records
 //! are written (0: before the first). `RINZO_DRILL=pause:I` holds it there, to
-//! be ended from outside. Without the variable this does nothing.
+//! be ended from outside, and `RINZO_DRILL=wait:I` until its standard input
+//! ends. Without the variable this does nothing.
 
-use crate::sys;
+use crate::file::sys;
+use std::time::Duration;
 
 /// Where to stop, if the drill is on.
 pub struct Drill {
@@ -14,6 +16,7 @@ pub struct Drill {
 enum Way {
     Stop,
     Pause,
+    Wait,
 }
 
 impl Drill {
@@ -25,11 +28,22 @@ impl Drill {
     /// So many records are written.
     pub fn reached(&self, written: u64) {
         match &self.at {
-            Some((Way::Stop, at)) if *at == written => sys::stop_dead(),
-            Some((Way::Pause, at)) if *at == written => loop {
-                std::thread::sleep(std::time::Duration::from_secs(3600));
-            },
+            Some((way, at)) if *at == written => way.hold(),
             _ => (),
+        }
+    }
+}
+
+impl Way {
+    fn hold(&self) {
+        match self {
+            Way::Stop => sys::stop_dead(),
+            Way::Pause => loop {
+                std::thread::sleep(Duration::from_secs(3600));
+            },
+            Way::Wait => {
+                let _ = std::io::copy(&mut std::io::stdin(), &mut std::io::sink());
+            }
         }
     }
 }
@@ -39,6 +53,7 @@ fn read(text: &str) -> Option<(Way, u64)> {
     let way = match way {
         "stop" => Way::Stop,
         "pause" => Way::Pause,
+        "wait" => Way::Wait,
         _ => return None,
     };
     Some((way, at.parse().ok()?))

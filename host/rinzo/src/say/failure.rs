@@ -1,6 +1,6 @@
 //! How a command can fail, as a sentence that says what to do and as an exit status.
 
-use crate::json::Json;
+use super::json::Json;
 use sdd::Refusal;
 use std::fmt;
 use std::io;
@@ -19,12 +19,14 @@ pub enum Failure {
     Exists(String),
     /// The system failed to read or write: 74.
     Io(String),
-    /// A job was dropped on a failed write; what was wrong, and what the file shows now: 74.
-    Dropped(String, String),
     /// Another program works on the file: 75.
     Busy(String),
     /// Not permitted: 77.
     NotPermitted(String),
+    /// Ctrl-C: 130.
+    Interrupted,
+    /// A job was dropped: why, and what the file shows now. The status is the reason's own.
+    Dropped(Box<Failure>, String),
     /// Nobody reads standard output any more: 74, and nothing to say.
     OutputClosed,
 }
@@ -37,9 +39,11 @@ impl Failure {
             Failure::Usage(_) => 64,
             Failure::NoInput(_) => 66,
             Failure::Exists(_) => 73,
-            Failure::Io(_) | Failure::Dropped(..) | Failure::OutputClosed => 74,
+            Failure::Io(_) | Failure::OutputClosed => 74,
             Failure::Busy(_) => 75,
             Failure::NotPermitted(_) => 77,
+            Failure::Interrupted => 130,
+            Failure::Dropped(why, _) => why.status(),
         }
     }
 
@@ -60,15 +64,20 @@ impl Failure {
 
     /// For programs.
     pub fn json(&self) -> Json {
-        let mut fields = match self {
+        let mut fields = self.number_for_programs();
+        fields.push(("sentence", Json::text(self.to_string())));
+        Json::Object(fields)
+    }
+
+    fn number_for_programs(&self) -> Vec<(&'static str, Json)> {
+        match self {
             Failure::Refused(why) => vec![
                 ("refused", Json::number(why.number())),
                 (if why.number() == 11 { "rule" } else { "slot" }, Json::number(why.value())),
             ],
+            Failure::Dropped(why, _) => why.number_for_programs(),
             _ => vec![("failed", Json::number(self.status()))],
-        };
-        fields.push(("sentence", Json::text(self.to_string())));
-        Json::Object(fields)
+        }
     }
 }
 
@@ -85,7 +94,8 @@ impl fmt::Display for Failure {
                 6..=8 => write!(f, "refused {} slot {}: {why}", why.number(), why.value()),
                 number => write!(f, "refused {number}: {why}"),
             },
-            Failure::Dropped(what, shows) => write!(f, "{what}. The job is dropped; {shows}"),
+            Failure::Interrupted => write!(f, "interrupted"),
+            Failure::Dropped(why, shows) => write!(f, "{why}. The job is dropped; {shows}"),
             Failure::OutputClosed => write!(f, "nobody reads the output"),
             Failure::Usage(s)
             | Failure::NoInput(s)

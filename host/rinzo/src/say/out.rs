@@ -1,7 +1,7 @@
 //! What a command prints: plain text, or JSON a line.
 
-use crate::failure::Failure;
-use crate::json::Json;
+use super::failure::Failure;
+use super::json::Json;
 use std::io::{IsTerminal, Write, stderr, stdout};
 
 /// Where and how to print.
@@ -47,6 +47,11 @@ impl Out {
     /// A remark beside the answer.
     pub fn remark(&self, text: &str) {
         let _ = writeln!(stderr(), "rinzo: {text}");
+    }
+
+    /// Whether a person sees how far long work has come.
+    pub fn tells_progress(&self) -> bool {
+        !self.json && stderr().is_terminal()
     }
 
     /// Whether bytes on standard output would be shown to a person.

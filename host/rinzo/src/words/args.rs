@@ -1,7 +1,9 @@
-//! The command line, read by a command's grammar.
+//! The command line, read by a command's line of the table.
 
-use crate::failure::Failure;
-use crate::grammar::{Command, Opt};
+use super::nearest::hint;
+use super::table::{Command, Opt};
+use crate::say::failure::Failure;
+use lexopt::{Arg, Parser};
 use std::collections::HashMap;
 use std::ffi::{OsStr, OsString};
 use std::path::Path;
@@ -14,56 +16,79 @@ pub struct Args {
 }
 
 fn usage<T>(command: &Command, what: String) -> Result<T, Failure> {
-    Err(Failure::Usage(format!("{what}. `rinzo {} --help` says more", command.name)))
+    let what = if what.ends_with('?') { what } else { what + "." };
+    Err(Failure::Usage(format!("{what} `rinzo {} --help` says more", command.name)))
 }
 
-/// Reads the words after the command's name.
-pub fn parse(command: &'static Command, given: &[OsString]) -> Result<Args, Failure> {
+/// Reads the words after the command's name; none where help is asked for.
+pub fn parse(command: &'static Command, given: &[OsString]) -> Result<Option<Args>, Failure> {
     let mut args = Args { command, words: Vec::new(), options: HashMap::new() };
-    let mut rest = given.iter();
-    let mut options_ended = false;
-    while let Some(word) = rest.next() {
-        match word.to_str() {
-            Some("--") if !options_ended => options_ended = true,
-            Some(text) if !options_ended && text.starts_with("--") => args.option(text, &mut rest)?,
-            _ => args.words.push(word.clone()),
+    let mut parser = Parser::from_args(given.to_vec());
+    while let Some(arg) = next(&mut parser)? {
+        match arg {
+            Found::Word(word) => args.words.push(word),
+            Found::Option(name) if name == "help" => return Ok(None),
+            Found::Option(name) => args.option(&name, &mut parser)?,
+            // a number below zero is a word, if a wrong one
+            Found::Short(letter) if letter.is_ascii_digit() => {
+                let mut word = OsString::from(format!("-{letter}"));
+                word.push(parser.optional_value().unwrap_or_default());
+                args.words.push(word);
+            }
+            Found::Short(letter) => {
+                let what =
+                    format!("-{letter} is no option of {}; a word that begins with - goes after --", command.name);
+                return usage(command, what);
+            }
         }
     }
     args.count_words()?;
-    Ok(args)
+    Ok(Some(args))
+}
+
+/// What comes next on the command line.
+enum Found {
+    Word(OsString),
+    Option(String),
+    Short(char),
+}
+
+fn next(parser: &mut Parser) -> Result<Option<Found>, Failure> {
+    let found = match parser.next() {
+        Ok(None) => return Ok(None),
+        Ok(Some(Arg::Value(word))) => Found::Word(word),
+        Ok(Some(Arg::Long(name))) => Found::Option(name.to_string()),
+        Ok(Some(Arg::Short('h'))) => Found::Option("help".to_string()),
+        Ok(Some(Arg::Short(letter))) => Found::Short(letter),
+        Err(error) => return Err(Failure::Usage(error.to_string())),
+    };
+    Ok(Some(found))
 }
 
 impl Args {
     /// Takes `--name`, `--name value` or `--name=value`.
-    fn option<'a>(&mut self, text: &str, rest: &mut impl Iterator<Item = &'a OsString>) -> Result<(), Failure> {
-        let (name, inline) = match text[2..].split_once('=') {
-            Some((name, value)) => (name, Some(OsString::from(value))),
-            None => (&text[2..], None),
-        };
+    fn option(&mut self, name: &str, parser: &mut Parser) -> Result<(), Failure> {
         let Some(option) = self.command.all_options().find(|option| option.name == name) else {
-            return usage(self.command, format!("--{name} is no option of {}", self.command.name));
+            let near = hint(name, "--", self.command.all_options().map(|option| option.name));
+            return usage(self.command, format!("--{name} is no option of {}{near}", self.command.name));
         };
-        let value = self.value_of(option, inline, rest)?;
+        let value = self.value_of(option, parser)?;
         if self.options.insert(option.name, value).is_some() {
             return usage(self.command, format!("--{name} is given twice"));
         }
         Ok(())
     }
 
-    fn value_of<'a>(
-        &self,
-        option: &Opt,
-        inline: Option<OsString>,
-        rest: &mut impl Iterator<Item = &'a OsString>,
-    ) -> Result<OsString, Failure> {
-        match (option.value, inline) {
-            (None, None) => Ok(OsString::new()),
-            (None, Some(_)) => usage(self.command, format!("--{} takes no value", option.name)),
-            (Some(_), Some(value)) => Ok(value),
-            (Some(what), None) => match rest.next() {
-                Some(value) => Ok(value.clone()),
-                None => usage(self.command, format!("--{} wants a value, {what}", option.name)),
-            },
+    fn value_of(&self, option: &Opt, parser: &mut Parser) -> Result<OsString, Failure> {
+        let Some(what) = option.value else {
+            return match parser.optional_value() {
+                None => Ok(OsString::new()),
+                Some(_) => usage(self.command, format!("--{} takes no value", option.name)),
+            };
+        };
+        match parser.value() {
+            Ok(value) => Ok(value),
+            Err(_) => usage(self.command, format!("--{} wants a value, {what}", option.name)),
         }
     }
 

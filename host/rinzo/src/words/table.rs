@@ -1,9 +1,5 @@
-//! The commands: their words, options and help.
-
-use crate::args::Args;
-use crate::commands;
-use crate::failure::Failure;
-use crate::out::Out;
+//! The table of commands: their words, options and what they are for. Help, completions and the man page are made from
+//! it; it knows nothing of what a command does.
 
 /// An option: its name, the name of its value if it takes one, and its help.
 pub struct Opt {
@@ -12,15 +8,49 @@ pub struct Opt {
     pub help: &'static str,
 }
 
+/// What kind of command it is, in the order of the overview.
+#[derive(Clone, Copy, Debug, PartialEq, Eq)]
+pub enum Group {
+    Look,
+    Change,
+    Make,
+}
+
+/// The groups with their headings.
+pub const GROUPS: [(Group, &str); 3] = [
+    (Group::Look, "look at a file"),
+    (Group::Change, "change a file"),
+    (Group::Make, "make a file, and what goes with the program"),
+];
+
+/// What is to be done.
+#[derive(Clone, Copy, Debug, PartialEq, Eq)]
+pub enum Verb {
+    Blank,
+    Check,
+    Classes,
+    Clear,
+    Completion,
+    Demo,
+    Entry,
+    Keep,
+    List,
+    Manual,
+    Read,
+    Save,
+    Show,
+}
+
 /// A command.
 pub struct Command {
     pub name: &'static str,
+    pub verb: Verb,
+    pub group: Group,
     /// The words after its name; one in brackets may be left out.
     pub words: &'static [&'static str],
     pub summary: &'static str,
     pub details: &'static str,
     pub options: &'static [&'static [Opt]],
-    pub run: fn(&Args, &Out) -> Result<(), Failure>,
 }
 
 const fn opt(name: &'static str, value: &'static str, help: &'static str) -> Opt {
@@ -32,7 +62,7 @@ const fn flag(name: &'static str, help: &'static str) -> Opt {
 }
 
 /// Every command takes these.
-const COMMON: [Opt; 2] = [flag("json", "print JSON, one object a line"), flag("help", "print this")];
+static COMMON: [Opt; 2] = [flag("json", "print JSON, one object a line"), flag("help", "print this")];
 
 const SIZES: [Opt; 5] = [
     opt("n", "N", "records of bootstrap and index, 2 to 513 (default 129)"),
@@ -69,115 +99,148 @@ const ABOUT_DETAILS: &str =
     "SCAN is a file with the scan's bytes, or - for standard input. What is not given of the entry is zeros.
 X is a number, or the bits of one in hexadecimal, as 0x7fc00001.";
 
+/// The shells that `completion` knows: the word SHELL.
+pub const SHELLS: [&str; 3] = ["bash", "zsh", "fish"];
+
 /// All commands, in the order of the overview.
-pub const COMMANDS: [Command; 11] = [
-    Command {
-        name: "demo",
-        words: &["[FILE]"],
-        summary: "show a whole wash job: a blank file, a before scan, an after scan, the list",
-        details: "Without FILE it works on a file of its own, which it removes; FILE is made anew and stays.",
-        options: &[],
-        run: commands::demo::run,
-    },
-    Command {
-        name: "blank",
-        words: &["FILE"],
-        summary: "make a file without scans",
-        details: "A file that has bytes is refused unless --force is given. It is never made shorter.",
-        options: &[&SIZES],
-        run: commands::blank::run,
-    },
-    Command {
-        name: "check",
-        words: &["FILE"],
-        summary: "judge a file and print its sizes",
-        details: "",
-        options: &[&[flag("scans", "read every scan too; refused 11 at the first that breaks a rule")]],
-        run: commands::check::run,
-    },
+pub static COMMANDS: [Command; 13] = [
     Command {
         name: "list",
+        verb: Verb::List,
+        group: Group::Look,
         words: &["FILE"],
         summary: "list the scans: slot, first and last record",
         details: "",
         options: &[&[flag("long", "add each scan's bytes, kind and source")]],
-        run: commands::list::run,
+    },
+    Command {
+        name: "check",
+        verb: Verb::Check,
+        group: Group::Look,
+        words: &["FILE"],
+        summary: "judge a file and print its sizes",
+        details: "",
+        options: &[&[flag("scans", "read every scan too; refused 11 at the first that breaks a rule")]],
     },
     Command {
         name: "entry",
+        verb: Verb::Entry,
+        group: Group::Look,
         words: &["FILE", "SLOT"],
         summary: "print the index entry of a slot",
         details: "",
         options: &[],
-        run: commands::entry::run,
     },
     Command {
         name: "classes",
+        verb: Verb::Classes,
+        group: Group::Look,
         words: &["FILE", "SLOT"],
         summary: "list the classes and the data of a slot's scan: from and to byte, and length",
         details: "",
         options: &[],
-        run: commands::classes::run,
     },
     Command {
         name: "show",
+        verb: Verb::Show,
+        group: Group::Look,
         words: &["FILE", "SLOT"],
         summary: "write out a slot's records, padding included",
         details: "",
         options: &[&BYTES],
-        run: commands::bytes::show,
     },
     Command {
         name: "read",
+        verb: Verb::Read,
+        group: Group::Look,
         words: &["FILE", "SLOT"],
         summary: "write out a slot's scan",
         details: "",
         options: &[&BYTES],
-        run: commands::bytes::read,
     },
     Command {
         name: "save",
+        verb: Verb::Save,
+        group: Group::Change,
         words: &["FILE", "SLOT", "SCAN"],
         summary: "save a scan to a slot, replacing the one it has",
         details: ABOUT_DETAILS,
         options: &[&ABOUT],
-        run: commands::job::save,
     },
     Command {
         name: "keep",
+        verb: Verb::Keep,
+        group: Group::Change,
         words: &["FILE", "SCAN"],
         summary: "save a scan to the lowest empty slot",
         details: ABOUT_DETAILS,
         options: &[&ABOUT],
-        run: commands::job::keep,
     },
     Command {
         name: "clear",
+        verb: Verb::Clear,
+        group: Group::Change,
         words: &["FILE", "SLOT"],
         summary: "empty a slot",
         details: "",
         options: &[],
-        run: commands::job::clear,
+    },
+    Command {
+        name: "blank",
+        verb: Verb::Blank,
+        group: Group::Make,
+        words: &["FILE"],
+        summary: "make a file without scans",
+        details: "A file that has bytes is refused unless --force is given. It is never made shorter.",
+        options: &[&SIZES],
+    },
+    Command {
+        name: "demo",
+        verb: Verb::Demo,
+        group: Group::Make,
+        words: &["[FILE]"],
+        summary: "show a whole wash job: a blank file, a before scan, an after scan, the list",
+        details: "Without FILE it works on a file of its own, which it removes; FILE is made anew and stays.",
+        options: &[],
+    },
+    Command {
+        name: "completion",
+        verb: Verb::Completion,
+        group: Group::Make,
+        words: &["SHELL"],
+        summary: "print what makes a shell complete these words: bash, zsh or fish",
+        details: "bash: put it into a file that your ~/.bashrc reads. zsh: into a file _rinzo in a folder of $fpath.
+fish: into ~/.config/fish/completions/rinzo.fish.",
+        options: &[],
+    },
+    Command {
+        name: "manual",
+        verb: Verb::Manual,
+        group: Group::Make,
+        words: &[],
+        summary: "print the man page",
+        details: "To read it: rinzo manual >rinzo.1; man ./rinzo.1",
+        options: &[],
     },
 ];
 
 /// The command of this name.
 pub fn find(name: &str) -> Option<&'static Command> {
-    static ALL: [Command; 11] = COMMANDS;
-    ALL.iter().find(|command| command.name == name)
+    COMMANDS.iter().find(|command| command.name == name)
 }
 
-const STATUS: &str = "Exit status: 0 done; 1 to 17 refused with this number; 64 bad usage; 66 no such file; 73 a file
-would be overwritten; 74 reading or writing failed; 75 another program works on the file; 77 not permitted.";
-
-/// The help of the whole program.
-pub fn overview() -> String {
-    let mut text = String::from("rinzo: SDD files\n\nusage: rinzo COMMAND ... [--json]\n\n");
-    for command in &COMMANDS {
-        text += &format!("  {:<32}{}\n", command.usage(), command.summary);
-    }
-    text + "\n`rinzo COMMAND --help` says more.\n" + STATUS
-}
+/// What ends a run: the status, and when.
+pub const STATUSES: [(&str, &str); 9] = [
+    ("0", "done"),
+    ("1 to 17", "refused with this number"),
+    ("64", "bad usage"),
+    ("66", "no such file"),
+    ("73", "a file would be overwritten"),
+    ("74", "reading or writing failed"),
+    ("75", "another program works on the file"),
+    ("77", "not permitted"),
+    ("130", "interrupted; a job under way is dropped"),
+];
 
 impl Command {
     /// Its name and words.
@@ -187,21 +250,16 @@ impl Command {
 
     /// Its options, common ones included.
     pub fn all_options(&self) -> impl Iterator<Item = &'static Opt> {
-        static SHARED: [Opt; 2] = COMMON;
-        self.options.iter().copied().flatten().chain(&SHARED)
+        self.options.iter().copied().flatten().chain(&COMMON)
     }
+}
 
-    /// Its help.
-    pub fn help(&self) -> String {
-        let mut text = format!("usage: rinzo {} [options]\n\n{}\n", self.usage(), self.summary);
-        if !self.details.is_empty() {
-            text += &format!("{}\n", self.details);
+impl Opt {
+    /// As it is written: `--name VALUE`.
+    pub fn usage(&self) -> String {
+        match self.value {
+            Some(value) => format!("--{} {value}", self.name),
+            None => format!("--{}", self.name),
         }
-        text += "\n";
-        for option in self.all_options() {
-            let name = format!("--{} {}", option.name, option.value.unwrap_or(""));
-            text += &format!("  {name:<20}{}\n", option.help);
-        }
-        text + "\n" + STATUS
     }
 }

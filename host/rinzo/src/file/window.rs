@@ -1,0 +1,204 @@
+//! A window on a file: memory of the file's length, of which only what was asked for has been read.
+//!
+//! The library is lent all of it and looks at little: at records 1 to N, and at the records of the
+//! scan that it is asked about. So its answer on a window that has those is its answer on the file.
+//! That is the frame law (`crates/paper/proofs/Frame.antt`) of the definitions, and the test with
+//! closed pages (`host/bench/src/closed.rs`) of the compiled calls.
+//!
+//! The memory is an anonymous mapping. No page of it exists until it is written, and only pages that
+//! are read in, or that a job is to write, are opened for writing: the system counts those alone.
+//! It is no mapping of the file, under which a file cut short would end the program.
+
+use memmap2::{Mmap, MmapOptions};
+use sdd::{Job, Refusal, Span, Step};
+use std::fs::File;
+use std::io;
+
+/// How much is read at a time.
+const PIECE: usize = 256 << 10;
+/// No record is longer.
+const LONGEST_RECORD: usize = 4_096;
+/// No file has more records of bootstrap and index.
+const MOST_HEAD_RECORDS: usize = 513;
+
+/// Reads bytes of the file from a place on; all that is asked for, or an error.
+pub type Read<'a> = &'a mut dyn FnMut(u64, &mut [u8]) -> io::Result<()>;
+
+/// The memory that is lent.
+pub struct Window {
+    /// Closed for writing but where `open` opened it.
+    mapped: Mmap,
+    len: usize,
+    page: usize,
+    /// Where records 1 to N end.
+    head: usize,
+    /// The data records that a job may write.
+    own: Span,
+}
+
+impl Window {
+    /// A window on so many bytes, with records 1 to N read in.
+    pub fn new(len: u64, read: Read) -> io::Result<Window> {
+        let len = usize::try_from(len).map_err(io::Error::other)?;
+        let zeros = File::open("/dev/zero")?;
+        // SAFETY: a private mapping of zeros, which no other program can change or cut short.
+        let mapped = unsafe { MmapOptions::new().len(len.max(1)).map_copy_read_only(&zeros)? };
+        // SAFETY: sysconf only answers.
+        let page = unsafe { libc::sysconf(libc::_SC_PAGESIZE) as usize };
+        let mut window = Window { mapped, len, page, head: 0, own: 0..0 };
+        window.read_head(read)?;
+        Ok(window)
+    }
+
+    /// Reads records 1 to N. N and L are not judged here, they only say how much to read: where they
+    /// are out of range the library refuses the file for its bootstrap, and looks no further.
+    fn read_head(&mut self, read: Read) -> io::Result<()> {
+        let first = self.len.min(LONGEST_RECORD);
+        self.fill(0..first, read)?;
+        let (n, l) = (self.word(0), self.word(8));
+        self.head = if n <= MOST_HEAD_RECORDS && l <= LONGEST_RECORD { (n * l).min(self.len) } else { 0 }.max(first);
+        self.fill(first..self.head, read)
+    }
+
+    /// The number in four bytes of the bootstrap, 0 where the file has none.
+    fn word(&self, at: usize) -> usize {
+        self.bytes().get(at..at + 4).map_or(0, |word| u32::from_be_bytes(word.try_into().unwrap()) as usize)
+    }
+
+    /// What is lent to a call that only looks.
+    pub fn bytes(&self) -> &[u8] {
+        &self.mapped[..self.len]
+    }
+
+    /// The file's length, as the window has it.
+    pub fn len(&self) -> u64 {
+        self.len as u64
+    }
+
+    /// Reads a part in.
+    pub fn fill(&mut self, part: Span, read: Read) -> io::Result<()> {
+        self.open(&part)?;
+        let mut at = part.start;
+        while at < part.end {
+            let end = part.end.min(at + PIECE);
+            // SAFETY: opened for writing above, and borrowed alone.
+            let piece = unsafe { std::slice::from_raw_parts_mut(self.at(at), end - at) };
+            read(at as u64, piece)?;
+            at = end;
+        }
+        Ok(())
+    }
+
+    /// Gives the memory of a part back, where it lies past records 1 to N. The part reads as zeros then.
+    pub fn forget(&mut self, part: &Span) {
+        let from = (part.start / self.page * self.page).max(self.head.next_multiple_of(self.page));
+        let to = part.end.next_multiple_of(self.page).min(self.len.next_multiple_of(self.page));
+        if from < to {
+            // SAFETY: whole pages of this mapping, which nothing refers to now.
+            unsafe { libc::madvise(self.at(from).cast(), to - from, libc::MADV_DONTNEED) };
+        }
+    }
+
+    /// Opens the data records that a job is to write.
+    pub fn open_for(&mut self, job: &Job) -> io::Result<()> {
+        self.own = self.data_of(job);
+        self.open(&self.own.clone())
+    }
+
+    /// The data records of a job, none for a clear.
+    pub fn data_of(&self, job: &Job) -> Span {
+        let (before, len, l) = (job.first().saturating_sub(1) as usize, job.scan_len() as usize, self.word(8).max(1));
+        if job.saves() { before * l..(before + len.div_ceil(l)) * l } else { 0..0 }
+    }
+
+    /// The job's next step, on this window.
+    pub fn step(&mut self, scan: &[u8], job: &mut Job) -> Result<Step, Refusal> {
+        let data = self.data_of(job);
+        let at = data.start + job.written() as usize * self.word(8);
+        if data.contains(&at) && !self.own.contains(&at) {
+            // the window was not opened for this job
+            return Err(Refusal::JobDisagrees);
+        }
+        // SAFETY: a step writes the record that it names and nothing else. That is record 1 or an index
+        // record, which were read in, or the data record at the job's place, which is open.
+        let lent = unsafe { std::slice::from_raw_parts_mut(self.at(0), self.len) };
+        sdd::step(lent, scan, job)
+    }
+
+    /// Opens a part for writing.
+    fn open(&mut self, part: &Span) -> io::Result<()> {
+        let (from, to) = (part.start / self.page * self.page, part.end.min(self.len));
+        if from >= to {
+            return Ok(());
+        }
+        // SAFETY: pages of this mapping, which reaches to the end of its last page.
+        let opened = unsafe { libc::mprotect(self.at(from).cast(), to - from, libc::PROT_READ | libc::PROT_WRITE) };
+        if opened == 0 { Ok(()) } else { Err(io::Error::last_os_error()) }
+    }
+
+    fn at(&self, place: usize) -> *mut u8 {
+        self.mapped.as_ptr().wrapping_add(place).cast_mut()
+    }
+}
+
+#[cfg(test)]
+mod tests {
+    use super::Window;
+
+    /// A blank file, and a reader of it that counts what it reads.
+    fn file(n: u64, room: usize) -> Vec<u8> {
+        let mut file = vec![0; room * 512];
+        sdd::blank(&mut file, n, 512, 64).unwrap();
+        file
+    }
+
+    #[test]
+    fn only_records_one_to_n_are_read_at_first() {
+        let mut file = file(10, 100);
+        file[10 * 512..].fill(7);
+        let mut bytes = 0;
+        let mut read = |at: u64, into: &mut [u8]| {
+            bytes += into.len();
+            into.copy_from_slice(&file[at as usize..][..into.len()]);
+            Ok(())
+        };
+        let mut window = Window::new(file.len() as u64, &mut read).unwrap();
+        assert_eq!(sdd::open(window.bytes()), sdd::open(&file));
+        assert_eq!(window.bytes()[..10 * 512], file[..10 * 512]);
+        assert!(window.bytes()[10 * 512..].iter().all(|byte| *byte == 0));
+        let part = 20 * 512..22 * 512;
+        window.fill(part.clone(), &mut read).unwrap();
+        assert_eq!(window.bytes()[part.clone()], file[part.clone()]);
+        window.forget(&part);
+        assert!(window.bytes()[part].iter().all(|byte| *byte == 0));
+        assert_eq!(window.bytes()[..10 * 512], file[..10 * 512]);
+        assert_eq!(bytes, 12 * 512);
+    }
+
+    #[test]
+    fn a_bootstrap_out_of_range_makes_no_long_read() {
+        let mut file = file(3, 4_000);
+        for (at, word) in [(0, 514u32), (0, u32::MAX), (8, 4_097), (8, u32::MAX)] {
+            let kept = file[at..at + 4].to_vec();
+            file[at..at + 4].copy_from_slice(&word.to_be_bytes());
+            let mut bytes = 0;
+            let window = Window::new(file.len() as u64, &mut |at, into| {
+                bytes += into.len();
+                into.copy_from_slice(&file[at as usize..][..into.len()]);
+                Ok(())
+            });
+            assert_eq!(sdd::open(window.unwrap().bytes()), sdd::open(&file));
+            assert_eq!(bytes, 4_096);
+            file[at..at + 4].copy_from_slice(&kept);
+        }
+    }
+
+    #[test]
+    fn short_files_have_windows_too() {
+        for len in [0, 1, 31, 511, 512, 4_095, 4_097] {
+            let window = Window::new(len, &mut |_, _| Ok(())).unwrap();
+            assert_eq!(window.bytes().len() as u64, len);
+            assert_eq!(window.len(), len);
+        }
+    }
+}
