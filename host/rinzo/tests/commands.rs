@@ -162,12 +162,18 @@ fn a_full_index_is_refusal_12() {
 fn wrong_usage_is_64_and_says_what_is_wrong() {
     let folder = folder("usage");
     paper_file(&folder);
-    let wrong: [(&[&str], &str); 11] = [
+    let wrong: [(&[&str], &str); 17] = [
         (&[], "no command"),
-        (&["lst"], "lst is no command"),
+        (&["wash"], "wash is no command. `rinzo --help`"),
+        (&["lst"], "lst is no command; did you mean list? `rinzo --help`"),
+        (&["help", "calsses"], "did you mean classes?"),
+        (&["keep", "f.sdd", "scan", "--sorce", "ORION"], "--sorce is no option of keep; did you mean --source?"),
+        (&["completion", "bsh"], "bsh is none; did you mean bash?"),
+        (&["list", "f.sdd", "-x"], "-x is no option of list"),
+        (&["entry", "f.sdd", "--", "--help"], "SLOT is a number, and --help is none"),
         (&["list"], "FILE is missing"),
         (&["list", "f.sdd", "1"], "one word too many"),
-        (&["list", "f.sdd", "--lon"], "--lon is no option"),
+        (&["list", "f.sdd", "--lon"], "--lon is no option of list; did you mean --long?"),
         (&["entry", "f.sdd", "one"], "SLOT is a number"),
         (&["entry", "f.sdd", "-1"], "SLOT is a number"),
         (&["blank", "g.sdd", "--n"], "--n wants a value"),
@@ -289,11 +295,36 @@ fn programs_get_json() {
 fn help_is_everywhere() {
     let folder = folder("help");
     assert!(wrote(&folder, &["--help"]).contains("usage: rinzo COMMAND"));
-    for command in ["blank", "check", "list", "entry", "classes", "show", "read", "save", "keep", "clear", "demo"] {
-        for words in [&[command, "--help"][..], &["help", command], &[command, "x", "--help"]] {
+    let commands = ["blank", "check", "list", "entry", "classes", "show", "read", "save", "keep", "clear", "demo"];
+    for command in commands.into_iter().chain(["completion", "manual"]) {
+        for words in [&[command, "--help"][..], &["help", command], &[command, "x", "-h"]] {
             assert!(wrote(&folder, words).starts_with(&format!("usage: rinzo {command} ")));
         }
     }
+}
+
+#[test]
+fn help_groups_the_commands() {
+    let help = wrote(&folder("help_groups"), &["--help"]);
+    let groups: Vec<&str> = help.split("\n\n").collect();
+    for (heading, commands) in [
+        ("look at a file:", &["list", "check", "entry", "classes", "show", "read"][..]),
+        ("change a file:", &["save", "keep", "clear"]),
+        ("make a file, and what goes with the program:", &["blank", "demo", "completion", "manual"]),
+    ] {
+        let group = groups.iter().find(|group| group.starts_with(heading)).unwrap_or_else(|| panic!("{help}"));
+        let named: Vec<&str> = group.lines().skip(1).map(|line| line.trim().split(' ').next().unwrap()).collect();
+        assert_eq!(named, commands);
+    }
+}
+
+#[test]
+fn two_dashes_end_the_options() {
+    let folder = folder("two_dashes");
+    wrote(&folder, &["blank", "--n", "3", "--room", "8", "--", "--force"]);
+    assert_eq!(wrote(&folder, &["list", "--", "--force"]), "slots 16 used 0 scans 0\n");
+    fs::write(folder.join("--json"), scan(512, 1)).unwrap();
+    assert!(wrote(&folder, &["keep", "--", "--force", "--json"]).ends_with("saved: slot 1 first 4 last 4\n"));
 }
 
 #[test]

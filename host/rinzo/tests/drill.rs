@@ -14,8 +14,6 @@ use std::path::Path;
 use std::process::Stdio;
 use std::time::Duration;
 
-const SIGKILL: i32 = 9;
-
 /// A job to be cut: its words, its slot, the records it writes, and what the slot shows after it.
 struct Cut {
     words: Vec<String>,
@@ -96,7 +94,7 @@ fn a_job_that_stops_itself_after_each_record() {
         for written in 0..=cut.writes {
             fs::write(folder.join("f.sdd"), &file).unwrap();
             let ended = rinzo(&folder).args(&cut.words).env("RINZO_DRILL", format!("stop:{written}")).output().unwrap();
-            assert_eq!(ended.status.signal(), Some(SIGKILL));
+            assert_eq!(ended.status.signal(), Some(libc::SIGKILL));
             assert!(!String::from_utf8_lossy(&ended.stdout).contains("saved"));
             demand_three(&folder, &cut, written, &before);
         }
@@ -119,7 +117,7 @@ fn a_job_that_is_killed_after_each_record() {
             fs::write(folder.join("f.sdd"), &file).unwrap();
             let mut child = held(&folder, &words, written);
             child.kill().unwrap();
-            assert_eq!(child.wait().unwrap().signal(), Some(SIGKILL));
+            assert_eq!(child.wait().unwrap().signal(), Some(libc::SIGKILL));
             demand_three(&folder, &cut, written, &before);
         }
     }
@@ -149,7 +147,7 @@ fn a_cut_job_can_be_done_again() {
     for cut in cuts(&folder) {
         let words: Vec<&str> = cut.words.iter().map(String::as_str).collect();
         let stopped = rinzo(&folder).args(&words).env("RINZO_DRILL", "stop:1").output().unwrap();
-        assert_eq!(stopped.status.signal(), Some(SIGKILL));
+        assert_eq!(stopped.status.signal(), Some(libc::SIGKILL));
         wrote(&folder, &words);
         assert_eq!(shown(&folder)[cut.slot as usize - 1], cut.after);
     }
@@ -182,16 +180,17 @@ fn a_job_has_the_file_alone() {
 
 /// Runs a save under a limit on file sizes: a write that reaches it is short, one past it fails.
 fn save_under_limit(folder: &Path, words: &[&str], limit: u64) -> (i32, String) {
-    unsafe extern "C" {
-        fn setrlimit(which: std::ffi::c_int, limits: *const [u64; 2]) -> std::ffi::c_int;
-    }
-    const RLIMIT_FSIZE: std::ffi::c_int = 1;
+    let limits = libc::rlimit { rlim_cur: limit, rlim_max: limit };
     let mut command = rinzo(folder);
     command.args(words);
     // SAFETY: setrlimit may be called between fork and exec.
     unsafe {
         command.pre_exec(move || {
-            if setrlimit(RLIMIT_FSIZE, &[limit, limit]) == 0 { Ok(()) } else { Err(std::io::Error::last_os_error()) }
+            if libc::setrlimit(libc::RLIMIT_FSIZE, &limits) == 0 {
+                Ok(())
+            } else {
+                Err(std::io::Error::last_os_error())
+            }
         });
     }
     let output = command.output().unwrap();

@@ -13,22 +13,20 @@ pub fn run(args: &Args, out: &Out) -> Result<(), Failure> {
     let sizes = sdd::open(lent.bytes())?;
     let scans = sdd::list(lent.bytes())?;
     if args.has("scans") {
-        read_all(&mut lent, &scans, out)?;
+        read_all(&mut lent, &scans, sizes.l, out)?;
     }
     let len = lent.bytes().len();
     out.answer(|| text(&sizes, scans.len(), len), || json(&sizes, scans.len(), len))
 }
 
-fn read_all(lent: &mut Lent, scans: &[Listed], out: &Out) -> Result<(), Failure> {
+fn read_all(lent: &mut Lent, scans: &[Listed], l: u64, out: &Out) -> Result<(), Failure> {
     let mut progress = Progress::of_things(out, "reading scan", scans.len());
     for scan in scans {
-        let slot = u64::from(scan.slot);
-        if let Err(why) = lent.scan_of(slot)? {
+        if let Err(why) = lent.glance(scan, l)? {
             drop(progress);
-            out.remark(&format!("the scan in slot {slot} cannot be read"));
+            out.remark(&format!("the scan in slot {} cannot be read", scan.slot));
             return Err(why.into());
         }
-        lent.forget(slot);
         progress.went_on(1);
     }
     Ok(())

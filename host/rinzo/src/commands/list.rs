@@ -22,7 +22,7 @@ pub fn list(path: &Path, long: bool, out: &Out) -> Result<(), Failure> {
     let mut progress = Progress::of_things(out, "looking into scan", if long { scans.len() } else { 0 });
     let mut rows = Vec::new();
     for scan in scans {
-        let seen = if long { Some(look_into(&mut lent, u64::from(scan.slot))?) } else { None };
+        let seen = if long { Some(look_into(&mut lent, &scan, sizes.l)?) } else { None };
         rows.push((scan, seen));
         progress.went_on(1);
     }
@@ -33,10 +33,9 @@ pub fn list(path: &Path, long: bool, out: &Out) -> Result<(), Failure> {
 /// A scan, and for a long list its entry and its bytes, where it can be read.
 type Row = (Listed, Option<(Entry, Option<usize>)>);
 
-fn look_into(lent: &mut Lent, slot: u64) -> Result<(Entry, Option<usize>), Failure> {
-    let entry = sdd::entry(lent.bytes(), slot)?;
-    let bytes = lent.scan_of(slot)?.ok().map(|span| span.len());
-    lent.forget(slot);
+fn look_into(lent: &mut Lent, scan: &Listed, l: u64) -> Result<(Entry, Option<usize>), Failure> {
+    let entry = sdd::entry(lent.bytes(), u64::from(scan.slot))?;
+    let bytes = lent.glance(scan, l)?.ok().map(|span| span.len());
     Ok((entry, bytes))
 }
 

@@ -6,7 +6,7 @@ use super::window::Window;
 use crate::say::failure::Failure;
 use crate::say::out::Out;
 use crate::say::progress::Progress;
-use sdd::{Refusal, Span};
+use sdd::{Listed, Refusal, Span};
 use std::io;
 use std::path::Path;
 
@@ -43,23 +43,24 @@ impl Lent {
         self.window.fill(part, &mut |at, into| device.read(at, into)).map_err(|error| cannot_be_read(device, &error))
     }
 
-    /// Where a slot's scan is, judged by its first record, which alone is read in: that is all that the
-    /// library looks at to judge it.
+    /// Where a slot's scan is, which may be refused for the scan's own sake. Its first record is read in, which is all
+    /// that the library looks at to judge it.
     pub fn scan_of(&mut self, slot: u64) -> Result<Result<Span, Refusal>, Failure> {
-        let shown = match sdd::show(self.bytes(), slot) {
-            Ok(shown) => shown,
-            Err(why) => return Ok(Err(why)),
-        };
-        let l = sdd::open(self.bytes())?.l as usize;
-        self.look_into(shown.start..shown.start + l)?;
-        Ok(sdd::read(self.bytes(), slot))
+        let start = sdd::show(self.bytes(), slot)?.start;
+        self.scan_at(slot, start)
     }
 
-    /// Gives back the memory of a slot's records.
-    pub fn forget(&mut self, slot: u64) {
-        if let Ok(shown) = sdd::show(self.bytes(), slot) {
-            self.window.forget(&shown);
-        }
+    /// The same for a slot whose records are known to start at this byte; its memory is given back.
+    pub fn glance(&mut self, scan: &Listed, l: u64) -> Result<Result<Span, Refusal>, Failure> {
+        let start = (scan.first as usize - 1) * l as usize;
+        let found = self.scan_at(u64::from(scan.slot), start)?;
+        self.window.forget(&(start..start + l as usize));
+        Ok(found)
+    }
+
+    fn scan_at(&mut self, slot: u64, start: usize) -> Result<Result<Span, Refusal>, Failure> {
+        self.look_into(start..start + self.window.record_len())?;
+        Ok(sdd::read(self.bytes(), slot))
     }
 
     /// A new window on a file that has another length than it had; whether it has.

@@ -55,7 +55,7 @@ impl Window {
     fn read_head(&mut self, read: Read) -> io::Result<()> {
         let first = self.len.min(LONGEST_RECORD);
         self.fill(0..first, read)?;
-        let (n, l) = (self.word(0), self.word(8));
+        let (n, l) = (self.word(0), self.record_len());
         self.head = if n <= MOST_HEAD_RECORDS && l <= LONGEST_RECORD { (n * l).min(self.len) } else { 0 }.max(first);
         self.fill(first..self.head, read)
     }
@@ -63,6 +63,11 @@ impl Window {
     /// The number in four bytes of the bootstrap, 0 where the file has none.
     fn word(&self, at: usize) -> usize {
         self.bytes().get(at..at + 4).map_or(0, |word| u32::from_be_bytes(word.try_into().unwrap()) as usize)
+    }
+
+    /// L, as the bootstrap has it.
+    pub fn record_len(&self) -> usize {
+        self.word(8)
     }
 
     /// What is lent to a call that only looks.
@@ -107,14 +112,15 @@ impl Window {
 
     /// The data records of a job, none for a clear.
     pub fn data_of(&self, job: &Job) -> Span {
-        let (before, len, l) = (job.first().saturating_sub(1) as usize, job.scan_len() as usize, self.word(8).max(1));
+        let (before, len, l) =
+            (job.first().saturating_sub(1) as usize, job.scan_len() as usize, self.record_len().max(1));
         if job.saves() { before * l..(before + len.div_ceil(l)) * l } else { 0..0 }
     }
 
     /// The job's next step, on this window.
     pub fn step(&mut self, scan: &[u8], job: &mut Job) -> Result<Step, Refusal> {
         let data = self.data_of(job);
-        let at = data.start + job.written() as usize * self.word(8);
+        let at = data.start + job.written() as usize * self.record_len();
         if data.contains(&at) && !self.own.contains(&at) {
             // the window was not opened for this job
             return Err(Refusal::JobDisagrees);

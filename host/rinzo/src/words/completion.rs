@@ -103,20 +103,20 @@ fn zsh_option(option: &Opt) -> String {
 
 fn zsh() -> String {
     let mut text =
-        String::from("#compdef rinzo\n# rinzo's words for zsh\n_rinzo() {\n    local -a commands\n    commands=(\n");
+        String::from("#compdef rinzo\n# rinzo's words for zsh\n_rinzo() {\n    local -a listed\n    listed=(\n");
     for command in &COMMANDS {
         text += &format!("        '{}:{}'\n", command.name, zsh_help(command.summary));
     }
     text += "        'help:say more of a command'
     )
     if (( CURRENT == 2 )); then
-        _describe -t commands command commands
+        _describe -t commands command listed
         return
     fi
     shift words
     (( CURRENT-- ))
     case $words[1] in
-    help) _describe -t commands command commands ;;
+    help) _describe -t commands command listed ;;
 ";
     for command in &COMMANDS {
         let specs = command.all_options().map(zsh_option).chain(command.words.iter().map(|word| zsh_word(word)));

@@ -1,6 +1,6 @@
 //! The man page, made from the table.
 
-use super::table::{COMMANDS, Command, GROUPS, STATUSES};
+use super::table::{COMMANDS, COMMON, Command, GROUPS, Opt, STATUSES};
 
 /// The page, in the form that `man` reads.
 pub fn page() -> String {
@@ -26,7 +26,7 @@ After \\fB\\-\\-\\fR a word is no option.
             text += &of(command);
         }
     }
-    text += ".SH EXIT STATUS\n";
+    text += &format!(".SH OPTIONS OF EVERY COMMAND\n{}.SH EXIT STATUS\n", options(COMMON.iter()));
     for (status, meaning) in STATUSES {
         text += &format!(".TP\n.B {status}\n{}\n", plain(meaning));
     }
@@ -40,11 +40,15 @@ fn of(command: &Command) -> String {
     for line in command.details.lines() {
         text += &format!(".br\n{}\n", plain(line));
     }
-    for option in command.all_options() {
+    text + &options(command.own_options())
+}
+
+fn options<'a>(options: impl Iterator<Item = &'a Opt>) -> String {
+    let line = |option: &Opt| {
         let value = option.value.map_or(String::new(), |value| format!(" \\fI{value}\\fR"));
-        text += &format!(".TP\n\\fB\\-\\-{}\\fR{value}\n{}\n", plain(option.name), plain(option.help));
-    }
-    text
+        format!(".TP\n\\fB\\-\\-{}\\fR{value}\n{}\n", plain(option.name), plain(option.help))
+    };
+    options.map(line).collect()
 }
 
 /// Text in which nothing is a command of the page's language.

@@ -62,7 +62,7 @@ const fn flag(name: &'static str, help: &'static str) -> Opt {
 }
 
 /// Every command takes these.
-static COMMON: [Opt; 2] = [flag("json", "print JSON, one object a line"), flag("help", "print this")];
+pub static COMMON: [Opt; 2] = [flag("json", "print JSON, one object a line"), flag("help", "print this")];
 
 const SIZES: [Opt; 5] = [
     opt("n", "N", "records of bootstrap and index, 2 to 513 (default 129)"),
@@ -248,9 +248,14 @@ impl Command {
         [&[self.name], self.words].concat().join(" ")
     }
 
+    /// The options that are its own.
+    pub fn own_options(&self) -> impl Iterator<Item = &'static Opt> {
+        self.options.iter().copied().flatten()
+    }
+
     /// Its options, common ones included.
     pub fn all_options(&self) -> impl Iterator<Item = &'static Opt> {
-        self.options.iter().copied().flatten().chain(&COMMON)
+        self.own_options().chain(&COMMON)
     }
 }
 

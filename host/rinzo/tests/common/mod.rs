@@ -1,6 +1,8 @@
 //! What the tests of the command line share: folders, scans, and the program itself.
 #![allow(dead_code)] // each test program uses a part of it
 
+pub mod cost;
+
 use std::path::{Path, PathBuf};
 use std::process::{Child, Command, Output, Stdio};
 
@@ -12,9 +14,10 @@ pub fn folder(name: &str) -> PathBuf {
     folder
 }
 
-/// The program, in a folder.
+/// The program, in a folder. `RINZO_PROGRAM` names another to be measured beside it.
 pub fn rinzo(folder: &Path) -> Command {
-    let mut command = Command::new(env!("CARGO_BIN_EXE_rinzo"));
+    let program = std::env::var_os("RINZO_PROGRAM").unwrap_or(env!("CARGO_BIN_EXE_rinzo").into());
+    let mut command = Command::new(program);
     command.current_dir(folder).stdin(Stdio::null()).env_remove("RINZO_DRILL");
     command
 }
