@@ -88,15 +88,6 @@ impl Group {
             fs::write(group.0.join(limit), bytes.to_string()).ok().map(|()| group)
         })
     }
-
-    /// A command that enters the group before it becomes the program.
-    fn command(&self, folder: &Path, words: &[&str]) -> Command {
-        let mut command = Command::new("sh");
-        let program = rinzo(folder).get_program().to_owned();
-        command.current_dir(folder).arg("-c").arg("echo $$ >\"$0\" && exec \"$@\"");
-        command.arg(self.0.join("cgroup.procs")).arg(program).args(words);
-        command
-    }
 }
 
 impl Drop for Group {
@@ -105,22 +96,30 @@ impl Drop for Group {
     }
 }
 
+/// The program with so much memory: what it may ask the system for to write to, and in the group, where there is one,
+/// what it may use.
+fn limited(folder: &Path, bytes: u64, group: Option<&Group>, words: &[&str]) -> Command {
+    let mut command = Command::new("sh");
+    let script = "ulimit -d $1; [ -z \"$0\" ] || echo $$ >\"$0\"; shift; exec \"$@\"";
+    let procs = group.map_or(PathBuf::new(), |group| group.0.join("cgroup.procs"));
+    command.current_dir(folder).arg("-c").arg(script).arg(procs).arg((bytes / 1024).to_string());
+    command.arg(rinzo(folder).get_program()).args(words);
+    command
+}
+
 #[test]
 fn a_file_larger_than_memory_is_opened_listed_and_saved_to() {
     let folder = folder("larger_than_memory");
     let [_, large] = small_and_large(&folder);
-    let allowed = 24 * MIB;
-    assert!(fs::metadata(folder.join(large)).unwrap().len() > 20 * allowed);
+    let allowed = 16 * MIB;
+    assert!(fs::metadata(folder.join(large)).unwrap().len() > 30 * allowed);
     let group = Group::new(allowed);
     println!("memory is {}", if group.is_some() { "limited by a control group" } else { "measured" });
     let scan = scan_file(&folder, 60_000, 3);
     for words in
         [&["check", large][..], &["list", large, "--long"], &["save", large, "9", &scan], &["show", large, "9"]]
     {
-        let cost = match &group {
-            Some(group) => cost::of(&mut group.command(&folder, words)),
-            None => cost::of(rinzo(&folder).args(words)),
-        };
+        let cost = cost::of(&mut limited(&folder, allowed, group.as_ref(), words));
         assert!(cost.peak < allowed, "{words:?}: {cost:?}");
     }
     assert!(wrote(&folder, &["list", large]).ends_with("\n9 136 253\n"));

@@ -88,9 +88,7 @@ pub fn read_back(device: &Device, more: impl FnOnce(&Window) -> Span, out: &Out)
     };
     let read_all = || -> io::Result<Window> {
         let mut window = Window::new(device.len()?, &mut read)?;
-        let part = more(&window);
-        let end = part.end.min(window.bytes().len());
-        window.fill(part.start.min(end)..end, &mut read)?;
+        window.fill(more(&window), &mut read)?;
         Ok(window)
     };
     let window = read_all().map_err(|error| cannot_be_read(device, &error))?;

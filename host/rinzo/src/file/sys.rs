@@ -41,6 +41,7 @@ pub fn allocate(file: &File, len: u64) -> io::Result<()> {
 }
 
 /// Whether the file system keeps its files in memory alone.
+#[allow(clippy::unnecessary_cast)] // with other C libraries these numbers have other types
 pub fn is_in_memory(file: &File) -> bool {
     const RAMFS_MAGIC: i64 = 0x8584_58f6;
     // SAFETY: a struct of numbers, which the call fills.

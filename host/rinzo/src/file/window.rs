@@ -10,7 +10,7 @@
 //! It is no mapping of the file, under which a file cut short would end the program.
 
 use memmap2::{Mmap, MmapOptions};
-use sdd::{Job, Refusal, Span, Step};
+use sdd::{Job, Span};
 use std::fs::File;
 use std::io;
 
@@ -26,14 +26,12 @@ pub type Read<'a> = &'a mut dyn FnMut(u64, &mut [u8]) -> io::Result<()>;
 
 /// The memory that is lent.
 pub struct Window {
-    /// Closed for writing but where `open` opened it.
+    /// Closed for writing, but for what was read in and what a job is to write.
     mapped: Mmap,
     len: usize,
     page: usize,
     /// Where records 1 to N end.
     head: usize,
-    /// The data records that a job may write.
-    own: Span,
 }
 
 impl Window {
@@ -45,7 +43,7 @@ impl Window {
         let mapped = unsafe { MmapOptions::new().len(len.max(1)).map_copy_read_only(&zeros)? };
         // SAFETY: sysconf only answers.
         let page = unsafe { libc::sysconf(libc::_SC_PAGESIZE) as usize };
-        let mut window = Window { mapped, len, page, head: 0, own: 0..0 };
+        let mut window = Window { mapped, len, page, head: 0 };
         window.read_head(read)?;
         Ok(window)
     }
@@ -80,8 +78,9 @@ impl Window {
         self.len as u64
     }
 
-    /// Reads a part in.
+    /// Reads a part in, as much of it as there is.
     pub fn fill(&mut self, part: Span, read: Read) -> io::Result<()> {
+        let part = part.start.min(self.len)..part.end.min(self.len);
         self.open(&part)?;
         let mut at = part.start;
         while at < part.end {
@@ -104,12 +103,6 @@ impl Window {
         }
     }
 
-    /// Opens the data records that a job is to write.
-    pub fn open_for(&mut self, job: &Job) -> io::Result<()> {
-        self.own = self.data_of(job);
-        self.open(&self.own.clone())
-    }
-
     /// The data records of a job, none for a clear.
     pub fn data_of(&self, job: &Job) -> Span {
         let (before, len, l) =
@@ -117,18 +110,13 @@ impl Window {
         if job.saves() { before * l..(before + len.div_ceil(l)) * l } else { 0..0 }
     }
 
-    /// The job's next step, on this window.
-    pub fn step(&mut self, scan: &[u8], job: &mut Job) -> Result<Step, Refusal> {
-        let data = self.data_of(job);
-        let at = data.start + job.written() as usize * self.record_len();
-        if data.contains(&at) && !self.own.contains(&at) {
-            // the window was not opened for this job
-            return Err(Refusal::JobDisagrees);
-        }
-        // SAFETY: a step writes the record that it names and nothing else. That is record 1 or an index
-        // record, which were read in, or the data record at the job's place, which is open.
-        let lent = unsafe { std::slice::from_raw_parts_mut(self.at(0), self.len) };
-        sdd::step(lent, scan, job)
+    /// What is lent to a step of a job, with the job's data records opened. A step writes the record that it names and
+    /// nothing else: record 1 or an index record, which were read in, or a data record of the job. To write anywhere else
+    /// would end the program.
+    pub fn lend_for(&mut self, job: &Job) -> io::Result<&mut [u8]> {
+        self.open(&self.data_of(job))?;
+        // SAFETY: the mapping, which lives as long as `self` and is borrowed alone.
+        Ok(unsafe { std::slice::from_raw_parts_mut(self.at(0), self.len) })
     }
 
     /// Opens a part for writing.
@@ -197,6 +185,64 @@ mod tests {
             assert_eq!(bytes, 4_096);
             file[at..at + 4].copy_from_slice(&kept);
         }
+    }
+
+    /// Numbers by chance, from a seed.
+    fn chance(state: &mut u64, below: usize) -> usize {
+        *state = state.wrapping_mul(0x5851_f42d_4c95_7f2d).wrapping_add(1);
+        (*state >> 33) as usize % below
+    }
+
+    /// A file with scans in slots 1 to 5, and bytes that are no zeros in every other record.
+    fn busy_file() -> Vec<u8> {
+        let mut file = file(4, 60);
+        file[4 * 512..].fill(0xa5);
+        for slot in 1..=5 {
+            let scan = sample::scan(300 + 400 * slot, slot as u8);
+            let mut job = sdd::save(&file, slot as u64, &scan, &[7; 54]).unwrap();
+            while let sdd::Step::Wrote { .. } = sdd::step(&mut file, &scan, &mut job).unwrap() {}
+        }
+        file
+    }
+
+    /// All that can be asked of a file without a look at its data.
+    fn answers(file: &[u8], slot: u64) -> impl PartialEq + std::fmt::Debug + use<> {
+        let scan = sample::scan(1_000, 9);
+        (
+            (sdd::open(file), sdd::list(file), sdd::entry(file, slot), sdd::show(file, slot)),
+            (sdd::save(file, slot, &scan, &[1; 54]), sdd::keep(file, &scan, &[1; 54]), sdd::clear(file, slot)),
+        )
+    }
+
+    #[test]
+    fn the_library_answers_on_a_window_as_on_the_file() {
+        let whole = busy_file();
+        let (mut state, mut opened) = (15, 0);
+        for turn in 0..4_000 {
+            let mut file = whole.clone();
+            for _ in 0..chance(&mut state, 4) {
+                // the bootstrap, or first and last of one of the first entries
+                let at = if turn % 2 == 0 {
+                    chance(&mut state, 32)
+                } else {
+                    512 + 64 * chance(&mut state, 8) + chance(&mut state, 8)
+                };
+                file[at] = [0, 1, 3, 5, 9, 60, 255][chance(&mut state, 7)];
+            }
+            let read = &mut |at: u64, into: &mut [u8]| {
+                into.copy_from_slice(&file[at as usize..][..into.len()]);
+                Ok(())
+            };
+            let mut window = Window::new(file.len() as u64, read).unwrap();
+            let slot = chance(&mut state, 10) as u64;
+            assert_eq!(answers(window.bytes(), slot), answers(&file, slot), "turn {turn}");
+            opened += u32::from(sdd::open(&file).is_ok());
+            if let Ok(shown) = sdd::show(&file, slot) {
+                window.fill(shown.start..shown.start + window.record_len(), read).unwrap();
+                assert_eq!(sdd::read(window.bytes(), slot), sdd::read(&file, slot), "turn {turn}");
+            }
+        }
+        assert!((500..3_500).contains(&opened), "{opened} files opened");
     }
 
     #[test]

@@ -3,6 +3,7 @@
 use super::drill::Drill;
 use super::interrupt;
 use crate::file::lent::{Lent, read_back};
+use crate::file::window::Window;
 use crate::say::failure::Failure;
 use crate::say::json::Json;
 use crate::say::out::Out;
@@ -24,9 +25,7 @@ pub struct Running<'a> {
 
 impl<'a> Running<'a> {
     /// A job that was begun on this file.
-    pub fn new(mut lent: Lent, scan: &'a [u8], job: Job, out: &'a Out) -> Result<Running<'a>, Failure> {
-        let opened = lent.window.open_for(&job);
-        opened.map_err(|error| Failure::Io(format!("there is no memory for the job's records: {error}")))?;
+    pub fn new(lent: Lent, scan: &'a [u8], job: Job, out: &'a Out) -> Result<Running<'a>, Failure> {
         let l = sdd::open(lent.bytes())?.l as usize;
         let before = sdd::entry(lent.bytes(), job.slot()).ok();
         let len = lent.window.len();
@@ -58,7 +57,8 @@ impl<'a> Running<'a> {
             return Err(Failure::Interrupted);
         }
         self.lent.renew()?;
-        Ok(self.lent.window.step(self.scan, &mut self.job)?)
+        let file = lend(&mut self.lent.window, &self.job)?;
+        Ok(sdd::step(file, self.scan, &mut self.job)?)
     }
 
     /// Writes the record that a step named, durably.
@@ -92,7 +92,7 @@ impl<'a> Running<'a> {
             || way.sentence().to_string(),
             || Json::Object(vec![("event", Json::text("read-back")), ("way", Json::text(way.name()))]),
         );
-        let confirmed = window.step(self.scan, &mut self.job)?;
+        let confirmed = sdd::step(lend(&mut window, &job)?, self.scan, &mut self.job)?;
         self.tell(confirmed);
         Ok(())
     }
@@ -142,4 +142,8 @@ impl<'a> Running<'a> {
                 (false, None) => format!("slot {slot} is empty now, which is not confirmed"),
             }
     }
+}
+
+fn lend<'a>(window: &'a mut Window, job: &Job) -> Result<&'a mut [u8], Failure> {
+    window.lend_for(job).map_err(|error| Failure::Io(format!("there is no memory for the job's records: {error}")))
 }

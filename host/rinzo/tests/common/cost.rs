@@ -16,6 +16,7 @@ pub struct Cost {
 }
 
 /// Runs a command that has to end well, and says what it cost.
+#[allow(clippy::zombie_processes)] // it is waited for by a call that tells its costs
 pub fn of(command: &mut Command) -> Cost {
     let began = Instant::now();
     let child = command.stdout(Stdio::null()).spawn().unwrap();
