@@ -129,33 +129,42 @@ fn a_file_larger_than_memory_is_opened_listed_and_saved_to() {
 /// Not part of the tests, since it hangs on the machine's mood: `host/bench/save` runs it for the page of speed.
 #[test]
 #[ignore = "a measurement of time"]
-fn the_time_of_a_save() {
+fn the_time_of_a_save_and_of_a_list() {
     let folder = folder("time");
     let files = small_and_large(&folder);
-    let mut costs = files.map(|_| Vec::new());
-    for _ in 0..40 {
+    println!("by turns, {TURNS} each: least and middle time, bytes read, peak memory");
+    compare(&files, "save of 1,000 bytes", |file| save(&folder, file));
+    compare(&files, "list", |file| cost::of(rinzo(&folder).args(["list", file])));
+    fs::remove_dir_all(&folder).unwrap();
+}
+
+const TURNS: usize = 40;
+
+/// Prints what something costs in each file, and how the large one compares with the small one.
+fn compare(files: &[&str; 2], what: &str, cost: impl Fn(&str) -> Cost) {
+    let mut costs = [Vec::new(), Vec::new()];
+    for _ in 0..TURNS {
         for (file, costs) in files.iter().zip(&mut costs) {
-            costs.push(save(&folder, file));
+            costs.push(cost(file));
         }
     }
-    println!("a save of 1,000 bytes, {} turns each: least and middle time, bytes read, peak memory", costs[0].len());
+    let millis = |cost: &Cost| cost.time.as_secs_f64() * 1e3;
     for (file, costs) in files.iter().zip(&mut costs) {
         costs.sort_by_key(|cost| cost.time);
-        let (least, middle) = (costs[0], costs[costs.len() / 2]);
+        let (least, middle) = (costs[0], costs[TURNS / 2]);
         let peak = costs.iter().map(|cost| cost.peak).max().unwrap();
         println!(
-            "{file:<10} {:>8.2} ms {:>8.2} ms {:>12} bytes {:>9} KiB",
-            least.time.as_secs_f64() * 1e3,
-            middle.time.as_secs_f64() * 1e3,
+            "{what}, {file:<10} {:>8.2} ms {:>8.2} ms {:>12} bytes {:>9} KiB",
+            millis(&least),
+            millis(&middle),
             middle.read,
             peak / 1024
         );
     }
-    let ratio = |of: fn(&Cost) -> f64| of(&costs[1][20]) / of(&costs[0][20]);
+    let [small, large] = costs.map(|costs| costs[TURNS / 2]);
     println!(
-        "large to small: time {:.2}, bytes read {:.2}",
-        ratio(|cost| cost.time.as_secs_f64()),
-        ratio(|cost| cost.read as f64)
+        "{what}, large to small: time {:.2}, bytes read {:.2}",
+        millis(&large) / millis(&small),
+        large.read as f64 / small.read as f64
     );
-    fs::remove_dir_all(&folder).unwrap();
 }

@@ -1,12 +1,13 @@
 //! `rinzo blank`: makes a file without scans.
 
-use crate::file::device::Device;
+use crate::file::device::{Device, Way};
 use crate::file::lent::{cannot_be_read, read_back};
 use crate::file::open::{sync_folder_of, to_make};
 use crate::say::failure::Failure;
 use crate::say::json::Json;
 use crate::say::out::Out;
 use crate::words::args::Args;
+use sdd::Sizes;
 use std::io;
 use std::path::Path;
 
@@ -48,25 +49,21 @@ pub fn blank(path: &Path, wanted: &Wanted, out: &Out) -> Result<(), Failure> {
     sync_folder_of(path)?;
 
     let (window, way) = read_back(&device, |_| 0..0, out)?;
-    let sizes = sdd::open(window.bytes())?;
     if !wanted.l.is_multiple_of(512) {
         out.remark("records that are no multiple of 512 bytes share the device's sectors: see docs/HOST.md");
     }
+    tell(&sdd::open(window.bytes())?, way, out)
+}
+
+fn tell(sizes: &Sizes, way: Way, out: &Out) -> Result<(), Failure> {
+    let (slots, room, l) = (sizes.capacity, sizes.room, sizes.l);
     out.answer(
-        || {
-            format!(
-                "blanked: {} slots, {} records of {} bytes, {}",
-                sizes.capacity,
-                sizes.room,
-                sizes.l,
-                way.sentence()
-            )
-        },
+        || format!("blanked: {slots} slots, {room} records of {l} bytes, {}", way.sentence()),
         || {
             Json::Object(vec![
                 ("event", Json::text("blanked")),
-                ("slots", Json::number(sizes.capacity)),
-                ("room", Json::number(sizes.room)),
+                ("slots", Json::number(slots)),
+                ("room", Json::number(room)),
                 ("read-back", Json::text(way.name())),
             ])
         },
