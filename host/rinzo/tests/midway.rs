@@ -6,9 +6,9 @@ use common::{folder, paper_file, rinzo, run, scan_file, wrote};
 use sample::scan;
 use std::fs::{self, OpenOptions};
 use std::io::{BufRead, BufReader, Read};
-use std::os::unix::process::ExitStatusExt;
+use std::os::unix::process::{CommandExt, ExitStatusExt};
 use std::path::Path;
-use std::process::{Child, ChildStdin, ChildStdout, Stdio};
+use std::process::{Child, ChildStdin, ChildStdout, Command, Stdio};
 
 /// A job that waits after some of its records.
 struct Waiting {
@@ -17,9 +17,21 @@ struct Waiting {
     stdout: BufReader<ChildStdout>,
 }
 
+/// A command that takes Ctrl-C in this way, however the tests were started.
+fn taking(how: libc::sighandler_t, mut command: Command) -> Command {
+    // SAFETY: signal may be called between fork and exec.
+    unsafe {
+        command.pre_exec(move || {
+            libc::signal(libc::SIGINT, how);
+            Ok(())
+        });
+    }
+    command
+}
+
 /// Starts a job, and comes back once it has written so many records and waits (one or more).
 fn waiting(folder: &Path, words: &[&str], written: usize) -> Waiting {
-    let mut child = rinzo(folder)
+    let mut child = taking(libc::SIG_DFL, rinzo(folder))
         .args(words)
         .env("RINZO_DRILL", format!("wait:{written}"))
         .stdin(Stdio::piped())
@@ -106,11 +118,28 @@ fn ctrl_c_ends_a_command_that_only_looks() {
     // it waits for the lock, which this process has
     let file = fs::File::open(folder.join("f.sdd")).unwrap();
     file.lock().unwrap();
-    let mut child = rinzo(&folder).args(["list", "f.sdd"]).spawn().unwrap();
+    let mut child = taking(libc::SIG_DFL, rinzo(&folder)).args(["list", "f.sdd"]).spawn().unwrap();
     std::thread::sleep(std::time::Duration::from_millis(200));
     // SAFETY: a signal to a child that was not waited for yet.
     unsafe { libc::kill(child.id() as libc::pid_t, libc::SIGINT) };
     assert_eq!(child.wait().unwrap().signal(), Some(libc::SIGINT));
+}
+
+#[test]
+fn a_job_in_the_background_takes_no_notice_of_ctrl_c() {
+    let folder = folder("ctrl_c_background");
+    let name = file_with_a_scan(&folder);
+    let mut command = taking(libc::SIG_IGN, rinzo(&folder));
+    let job = command.args(["save", "f.sdd", "1", &name]).env("RINZO_DRILL", "wait:1").stdin(Stdio::piped());
+    let mut child = job.stdout(Stdio::piped()).spawn().unwrap();
+    let mut stdout = BufReader::new(child.stdout.take().unwrap());
+    stdout.read_line(&mut String::new()).unwrap();
+    // SAFETY: a signal to a child that was not waited for yet.
+    unsafe { libc::kill(child.id() as libc::pid_t, libc::SIGINT) };
+    drop(child.stdin.take());
+    let mut printed = String::new();
+    stdout.read_to_string(&mut printed).unwrap();
+    assert!(child.wait().unwrap().success() && printed.contains("saved: slot 1"), "{printed}");
 }
 
 /// Sets the length of the file while a job waits, and holds what comes to this: refused, and nothing more written.

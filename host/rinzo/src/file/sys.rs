@@ -13,11 +13,16 @@ pub fn ignore_file_size_signal() {
     unsafe { libc::signal(libc::SIGXFSZ, libc::SIG_IGN) };
 }
 
-/// Has the first Ctrl-C call `handler`; the next one ends the program, as it does by itself.
+/// Has the first Ctrl-C call `handler`; the next one ends the program, as it does by itself. A program that was started
+/// to take no notice of Ctrl-C, as a shell does with work in the background, takes none.
 pub fn on_first_interrupt(handler: extern "C" fn(c_int)) {
     // SAFETY: a struct of numbers, for which zeros are valid; the handler is of the kind that is asked for.
     unsafe {
         let mut action: libc::sigaction = std::mem::zeroed();
+        libc::sigaction(libc::SIGINT, std::ptr::null(), &mut action);
+        if action.sa_sigaction == libc::SIG_IGN {
+            return;
+        }
         action.sa_sigaction = handler as *const () as usize;
         action.sa_flags = libc::SA_RESETHAND | libc::SA_RESTART;
         libc::sigaction(libc::SIGINT, &action, std::ptr::null_mut());
