@@ -229,6 +229,11 @@ pub fn find(name: &str) -> Option<&'static Command> {
     COMMANDS.iter().find(|command| command.name == name)
 }
 
+/// Whether a word or a value, by its name in the table, is a file's.
+pub fn is_file(name: &str) -> bool {
+    matches!(name.trim_matches(['[', ']']), "FILE" | "SCAN")
+}
+
 /// What ends a run: the status, and when.
 pub const STATUSES: [(&str, &str); 9] = [
     ("0", "done"),
