@@ -162,9 +162,7 @@ fn compare(files: &[&str; 2], what: &str, cost: impl Fn(&str) -> Cost) {
         );
     }
     let [small, large] = costs.map(|costs| costs[TURNS / 2]);
-    println!(
-        "{what}, large to small: time {:.2}, bytes read {:.2}",
-        millis(&large) / millis(&small),
-        large.read as f64 / small.read as f64
-    );
+    let (time, read) = (millis(&large) / millis(&small), large.read as f64 / small.read as f64);
+    let verdict = if time <= 1.3 && read <= 1.3 { "met" } else { "not met" };
+    println!("{what}, large to small: time {time:.2}, bytes read {read:.2}; the target of 1.3 is {verdict}");
 }
