@@ -8,6 +8,8 @@
 mod answers;
 mod calls;
 mod layout;
+mod numbers;
 
 pub use answers::{Begun, Entry, Job, Listed, Opened, Refusal, Span, Stepped};
 pub use calls::Calls;
+pub use numbers::{done, kind, refused};

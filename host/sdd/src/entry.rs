@@ -1,36 +1,7 @@
 //! An index entry.
 
-/// A Real*4 bit for bit, not-a-numbers too.
-#[derive(Clone, Copy, Debug, PartialEq, Eq)]
-pub struct Real4(u32);
-
-/// A Real*8 bit for bit, not-a-numbers too.
-#[derive(Clone, Copy, Debug, PartialEq, Eq)]
-pub struct Real8(u64);
-
-impl Real4 {
-    /// The 32 bits as the file has them.
-    pub fn bits(self) -> u32 {
-        self.0
-    }
-
-    /// The value of these bits.
-    pub fn value(self) -> f32 {
-        f32::from_bits(self.0)
-    }
-}
-
-impl Real8 {
-    /// The 64 bits as the file has them.
-    pub fn bits(self) -> u64 {
-        self.0
-    }
-
-    /// The value of these bits.
-    pub fn value(self) -> f64 {
-        f64::from_bits(self.0)
-    }
-}
+use crate::{About, Real4, Real8};
+use face::kind;
 
 /// What the mode says the two measured fields are.
 #[derive(Clone, Copy, Debug, PartialEq, Eq)]
@@ -56,6 +27,17 @@ pub enum Kind {
         /// Bytes 40 to 47.
         double: Real8,
     },
+}
+
+impl Kind {
+    /// The two fields as they stand in the file, whatever they are called.
+    fn fields(self) -> (Real4, Real8) {
+        match self {
+            Kind::SpectralLine { resolution, rest_frequency } => (resolution, rest_frequency),
+            Kind::Continuum { slew_rate, integration_time } => (slew_rate, integration_time),
+            Kind::Other { single, double } => (single, double),
+        }
+    }
 }
 
 /// The index entry of a slot that has a scan.
@@ -88,22 +70,40 @@ pub struct Entry {
 }
 
 impl Entry {
+    /// What the entry says beside its records: lend it to a save, and the scan is kept under the same entry.
+    pub fn about(&self) -> About {
+        let (field4, field8) = self.kind.fields();
+        About {
+            horizontal: self.horizontal,
+            vertical: self.vertical,
+            source: self.source,
+            scan: self.scan,
+            field4,
+            field8,
+            lst: self.lst,
+            date: self.date,
+            mode: self.mode,
+            number: self.number,
+            position: self.position,
+        }
+    }
+
     pub(crate) fn of(entry: face::Entry) -> Entry {
-        let (single, double) = (Real4(entry.field4), Real8(entry.field8));
+        let (single, double) = (Real4::from_bits(entry.field4), Real8::from_bits(entry.field8));
         Entry {
             first: entry.first,
             last: entry.last,
-            horizontal: Real4(entry.horizontal),
-            vertical: Real4(entry.vertical),
+            horizontal: Real4::from_bits(entry.horizontal),
+            vertical: Real4::from_bits(entry.vertical),
             source: entry.source,
-            scan: Real4(entry.scan),
+            scan: Real4::from_bits(entry.scan),
             kind: match entry.kind {
-                2 => Kind::SpectralLine { resolution: single, rest_frequency: double },
-                1 => Kind::Continuum { slew_rate: single, integration_time: double },
+                kind::SPECTRAL_LINE => Kind::SpectralLine { resolution: single, rest_frequency: double },
+                kind::CONTINUUM => Kind::Continuum { slew_rate: single, integration_time: double },
                 _ => Kind::Other { single, double },
             },
-            lst: Real4(entry.lst),
-            date: Real4(entry.date),
+            lst: Real4::from_bits(entry.lst),
+            date: Real4::from_bits(entry.date),
             mode: entry.mode,
             number: entry.number,
             position: entry.position,

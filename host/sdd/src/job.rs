@@ -1,11 +1,10 @@
 //! The calls that change a file, one record at a time.
 
+use crate::about::About;
 use crate::linked::calls;
 use crate::look::accepted;
 use crate::refusal::Refusal;
-
-/// An entry's bytes 8 to 61, as they are to stand in the file.
-pub type About = [u8; 54];
+use face::done;
 
 /// A save, keep or clear under way. It is a value: copy it freely. A job that
 /// is stepped no more is dropped; the file stays good wherever it stopped.
@@ -37,9 +36,14 @@ impl Job {
     pub fn written(&self) -> u64 {
         self.0.written
     }
+
+    /// Records that the job writes in all, where a record has L bytes: the scan's, record 1 and an index record.
+    pub fn records(&self, l: u64) -> u64 {
+        self.0.scan_len.div_ceil(l) + 2
+    }
 }
 
-/// What a step did.
+/// What a step did to the bytes that it was lent.
 #[derive(Clone, Copy, Debug, PartialEq, Eq)]
 pub enum Step {
     /// It wrote this record of the lent file, and nothing else.
@@ -49,12 +53,12 @@ pub enum Step {
         /// Records written so far.
         written: u64,
     },
-    /// It wrote nothing, judged the file and found the save as it should be.
+    /// It wrote nothing, judged the lent bytes and found the save as it should be in them.
     Saved {
         /// Records written in all.
         written: u64,
     },
-    /// It wrote nothing, judged the file and found the slot cleared.
+    /// It wrote nothing, judged the lent bytes and found the slot cleared in them.
     Cleared {
         /// Records written in all.
         written: u64,
@@ -70,6 +74,7 @@ pub fn blank(file: &mut [u8], n: u64, l: u64, m: u64) -> Result<(), Refusal> {
 
 /// Begins to save a scan to a slot: refusals 1 to 9, 11, 13.
 pub fn save(file: &[u8], slot: u64, scan: &[u8], about: &About) -> Result<Job, Refusal> {
+    let about = about.bytes();
     // SAFETY: pointers and lengths are those of slices, and `about` is 54 bytes.
     let begun = unsafe { (calls().save)(file.as_ptr(), file.len(), slot, scan.as_ptr(), scan.len(), about.as_ptr()) };
     accepted(begun.why, Job(begun.job))
@@ -77,6 +82,7 @@ pub fn save(file: &[u8], slot: u64, scan: &[u8], about: &About) -> Result<Job, R
 
 /// Begins to save a scan to the lowest empty slot: refusals 1 to 8, 12, 11, 13.
 pub fn keep(file: &[u8], scan: &[u8], about: &About) -> Result<Job, Refusal> {
+    let about = about.bytes();
     // SAFETY: as in `save`.
     let begun = unsafe { (calls().keep)(file.as_ptr(), file.len(), scan.as_ptr(), scan.len(), about.as_ptr()) };
     accepted(begun.why, Job(begun.job))
@@ -92,13 +98,19 @@ pub fn clear(file: &[u8], slot: u64) -> Result<Job, Refusal> {
 /// Does the next step: refusals 14, and for the confirming step 1 to 8 and 15.
 /// The scan is the one the job was begun with, empty for a clear. The job moves
 /// on where the step is accepted and stays as it was where it is refused.
+///
+/// **A step does no input or output.** Write the record that it names to the
+/// device and make it durable before the next step. Run the confirming step on
+/// bytes **read back** from the device: on the memory that the steps themselves
+/// wrote it answers Saved whatever became of the file. [`drive`](crate::drive)
+/// does both.
 pub fn step(file: &mut [u8], scan: &[u8], job: &mut Job) -> Result<Step, Refusal> {
     // SAFETY: as in `save`; the file is borrowed for writing.
     let stepped = unsafe { (calls().step)(file.as_mut_ptr(), file.len(), scan.as_ptr(), scan.len(), job.0) };
     let written = stepped.written;
     let step = match stepped.done {
-        0 => Step::Wrote { record: stepped.record, written },
-        1 => Step::Saved { written },
+        done::WROTE => Step::Wrote { record: stepped.record, written },
+        done::SAVED => Step::Saved { written },
         _ => Step::Cleared { written },
     };
     *job = Job(stepped.job);

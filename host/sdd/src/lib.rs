@@ -7,38 +7,86 @@
 //! A file is a slice of bytes, perhaps longer than what is in use. The calls
 //! that look at it are [`open`], [`list`], [`entry`], [`show`] and [`read`];
 //! [`class`], [`classes`] and [`data`] take a scan apart. [`blank`] makes an
-//! empty file. [`save`], [`keep`] and [`clear`] begin a [`Job`] and change
-//! nothing; [`step`] then writes one record at a time:
+//! empty file.
+//!
+//! # To save a scan
+//! [`drive`] runs a job on a [`Device`]: it writes each record durably, reads
+//! back past the cache, and answers Saved on what came back alone.
 //!
 //! ```
-//! let mut file = vec![0; 4096];
-//! sdd::blank(&mut file, 3, 512, 64)?;
-//! # let scan = sample::scan(1000, 0);
-//! let mut job = sdd::save(&file, 1, &scan, &[0; 54])?;
-//! let saved = loop {
-//!     match sdd::step(&mut file, &scan, &mut job)? {
-//!         sdd::Step::Wrote { record, written } => println!("record {record}, {written} so far"),
-//!         done => break done,
+//! # struct Card { cache: Vec<u8>, cells: Vec<u8> }
+//! # impl Card {
+//! #     fn blank() -> Card {
+//! #         let mut cells = vec![0; 4096];
+//! #         sdd::blank(&mut cells, 3, 512, 64).unwrap();
+//! #         Card { cache: cells.clone(), cells }
+//! #     }
+//! # }
+//! use sdd::{About, Device, drive};
+//!
+//! impl Device for Card {
+//!     type Error = std::convert::Infallible;
+//!     fn len(&mut self) -> Result<u64, Self::Error> {
+//!         Ok(self.cells.len() as u64)
 //!     }
-//! };
-//! assert_eq!(saved, sdd::Step::Saved { written: 4 });
-//! assert_eq!(sdd::list(&file)?, [sdd::Listed { slot: 1, first: 4, last: 5 }]);
-//! # Ok::<(), sdd::Refusal>(())
+//!     fn read(&mut self, at: u64, into: &mut [u8]) -> Result<(), Self::Error> {
+//!         // on a file: pread
+//! #         into.copy_from_slice(&self.cache[at as usize..][..into.len()]);
+//!         Ok(())
+//!     }
+//!     fn write(&mut self, at: u64, record: &[u8]) -> Result<(), Self::Error> {
+//!         // on a file: one pwrite
+//! #         self.cache[at as usize..][..record.len()].copy_from_slice(record);
+//!         Ok(())
+//!     }
+//!     fn flush(&mut self) -> Result<(), Self::Error> {
+//!         // on a file: fdatasync
+//! #         self.cells = self.cache.clone();
+//!         Ok(())
+//!     }
+//!     fn read_back(&mut self, at: u64, into: &mut [u8]) -> Result<(), Self::Error> {
+//!         // on a file: a read with O_DIRECT
+//! #         into.copy_from_slice(&self.cells[at as usize..][..into.len()]);
+//!         Ok(())
+//!     }
+//! }
+//!
+//! let mut card = Card::blank();
+//! # let scan = sample::scan(1000, 0);
+//! let saved = drive::keep(&mut card, &scan, &About::default().named("ORION A")?)?;
+//! assert_eq!(saved, drive::Confirmed::Saved { slot: 1, first: 4, last: 5 });
+//! assert_eq!(sdd::list(&drive::look(&mut card)?)?, [sdd::Listed { slot: 1, first: 4, last: 5 }]);
+//! # Ok::<(), Box<dyn std::error::Error>>(())
 //! ```
 //!
+//! Beneath it, [`save`], [`keep`] and [`clear`] begin a [`Job`] and change
+//! nothing, and [`step`] puts one record at a time into lent memory. These do no
+//! input or output, so their Saved speaks of memory alone.
+//!
+//! # What a call needs
 //! Every call takes every input: what it cannot do it refuses with a
-//! [`Refusal`], and a refused call has changed nothing.
+//! [`Refusal`], and a refused call has changed nothing. A call needs up to
+//! [`stack::MOST`] bytes of stack: more than some threads have.
 
+mod about;
+mod device;
+pub mod drive;
 mod entry;
 mod job;
 mod linked;
 mod look;
+mod real;
 mod refusal;
+mod sentence;
 mod sizes;
+pub mod stack;
 
-pub use entry::{Entry, Kind, Real4, Real8};
-pub use job::{About, Job, Step, blank, clear, keep, save, step};
+pub use about::{About, NameTooLong};
+pub use device::Device;
+pub use entry::{Entry, Kind};
+pub use job::{Job, Step, blank, clear, keep, save, step};
 pub use look::{Listed, Span, class, classes, data, entry, list, open, read, show};
+pub use real::{Real4, Real8};
 pub use refusal::{Refusal, Rule};
 pub use sizes::Sizes;
 

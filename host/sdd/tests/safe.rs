@@ -1,7 +1,7 @@
 //! The safe crate: types come out as they should.
 
 use sample::scan;
-use sdd::{Kind, Refusal, Rule, Step};
+use sdd::{About, Kind, Real8, Refusal, Rule, Step};
 
 fn file() -> Vec<u8> {
     let mut file = vec![0; 4_096];
@@ -58,7 +58,7 @@ fn refusals_come_as_cases() {
     let mut file = file();
     assert_eq!(sdd::entry(&file, 17), Err(Refusal::NoSuchSlot));
     assert_eq!(sdd::show(&file, 1), Err(Refusal::EmptySlot));
-    assert_eq!(sdd::save(&file, 1, &scan(512, 3)[..300], &[0; 54]), Err(Refusal::BadScan(Rule::Data)));
+    assert_eq!(sdd::save(&file, 1, &scan(512, 3)[..300], &About::default()), Err(Refusal::BadScan(Rule::Data)));
     assert_eq!(sdd::blank(&mut file, 3, 511, 64), Err(Refusal::BadSizes));
     file[512 + 3] = 9;
     assert_eq!(sdd::list(&file), Err(Refusal::EntryAboveUsed(1)));
@@ -68,7 +68,7 @@ fn refusals_come_as_cases() {
 fn a_refused_step_leaves_the_job_as_it_was() {
     let mut file = file();
     let scan = scan(600, 3);
-    let begun = sdd::keep(&file, &scan, &[0; 54]).unwrap();
+    let begun = sdd::keep(&file, &scan, &About::default()).unwrap();
     let mut job = begun;
     assert_eq!(sdd::step(&mut file, &scan[1..], &mut job), Err(Refusal::JobDisagrees));
     assert_eq!(job, begun);
@@ -81,10 +81,8 @@ fn an_entry_carries_its_kind() {
     let mut file = file();
     let scan = scan(512, 3);
     for (mode, slot) in [(512i16, 1), (304, 2), (305, 3)] {
-        let mut about = [0; 54];
-        about[28..32].copy_from_slice(&1.5f32.to_be_bytes());
-        about[32..40].copy_from_slice(&0x7ff8_0000_0000_0001u64.to_be_bytes());
-        about[48..50].copy_from_slice(&mode.to_be_bytes());
+        let field8 = Real8::from_bits(0x7ff8_0000_0000_0001);
+        let about = About { field4: 1.5.into(), field8, mode, ..About::default() };
         let job = sdd::save(&file, slot, &scan, &about).unwrap();
         assert_eq!(run(&mut file, &scan, job), Step::Saved { written: 3 });
     }
@@ -99,7 +97,7 @@ fn an_entry_carries_its_kind() {
 fn parts_are_spans_of_what_was_lent() {
     let mut file = file();
     let scan = scan(700, 3);
-    let job = sdd::keep(&file, &scan, &[0; 54]).unwrap();
+    let job = sdd::keep(&file, &scan, &About::default()).unwrap();
     run(&mut file, &scan, job);
     assert_eq!(sdd::show(&file, 1), Ok(1_536..2_560));
     assert_eq!(sdd::read(&file, 1), Ok(1_536..2_236));

@@ -46,7 +46,7 @@ pub fn from(args: &Args) -> Result<About, Failure> {
     if let Some(source) = args.read("source", "a name of at most 16 bytes", source)? {
         about[8..24].copy_from_slice(&source);
     }
-    Ok(about)
+    Ok(About::of(&about))
 }
 
 fn from_file(args: &Args, path: &Path) -> Result<About, Failure> {
@@ -55,7 +55,7 @@ fn from_file(args: &Args, path: &Path) -> Result<About, Failure> {
         return args.wrong(&format!("--about gives the whole entry, so --{name} cannot stand beside it"));
     }
     match small_file(path, 54)?.try_into() {
-        Ok(about) => Ok(about),
+        Ok(about) => Ok(About::of(&about)),
         Err(_) => args.wrong(&format!("--about wants a file of exactly 54 bytes, and {} is none", path.display())),
     }
 }

@@ -61,9 +61,5 @@ fn wave(readings: usize) -> Vec<u8> {
 
 /// A continuum scan's entry: source, scan number and mode.
 fn entry(source: &[u8; 16], number: f32) -> sdd::About {
-    let mut about = [0; 54];
-    about[8..24].copy_from_slice(source);
-    about[24..28].copy_from_slice(&number.to_be_bytes());
-    about[48..50].copy_from_slice(&256i16.to_be_bytes());
-    about
+    sdd::About { source: *source, scan: number.into(), mode: 256, ..sdd::About::default() }
 }
