@@ -2,6 +2,8 @@
  *
  * Link target/staticlib/libsdd.a (x86-64; `rt staticlib sdd` writes it), or the object that
  * host/native makes of the same module on another processor. Rust programs use the crate host/sdd.
+ * sdd_plain.h beside this file has, in plain C that is not proved, the entry's 54 bytes from fields
+ * and back, and a sentence for each refusal. host/example/save.c saves a scan to a real file.
  *
  * For every call:
  *
@@ -15,6 +17,11 @@
  * - `why` is {0, 0} where the call is accepted. Else it is the paper's refusal number with its slot
  *   or reason (0 where there is none), every other field of the answer is 0, and the job of a
  *   refused step is the job that was lent.
+ *
+ * Stack: the calls allocate nothing, so their tables lie on the caller's stack, and a call on a file
+ * that holds scans needs more than one on a blank file. SDD_STACK_.. below says what each call needs
+ * at most. A thread with less ends in a crash, not in a refusal: give one that calls the library
+ * SDD_STACK and what it needs itself.
  *
  * "The file" is all bytes lent, which may be more than are in use: what is in use follows from the
  * bootstrap. Records are numbered from 1, slots from 1, classes from 1. Numbers inside the file are
@@ -49,6 +56,64 @@
 #ifdef __cplusplus
 extern "C" {
 #endif
+
+/* The refusals by name, as `number` has them. */
+enum {
+  SDD_TOO_SHORT = 1,
+  SDD_OLD_FORM = 2,
+  SDD_UNKNOWN_VERSION = 3,
+  SDD_BAD_BOOTSTRAP = 4,
+  SDD_CUT_SHORT = 5,
+  SDD_BAD_ENTRY = 6,
+  SDD_ENTRY_ABOVE_USED = 7,
+  SDD_SHARED_RECORD = 8,
+  SDD_NO_SUCH_SLOT = 9,
+  SDD_EMPTY_SLOT = 10,
+  SDD_BAD_SCAN = 11,
+  SDD_NO_EMPTY_SLOT = 12,
+  SDD_NO_ROOM = 13,
+  SDD_JOB_DISAGREES = 14,
+  SDD_NOT_CONFIRMED = 15,
+  SDD_BAD_SIZES = 16,
+  SDD_ANSWER_TOO_LONG = 17
+};
+
+/* What a step did, as `done` has it. */
+enum { SDD_WROTE = 0, SDD_SAVED = 1, SDD_CLEARED = 2 };
+
+/* What an entry's mode says, as `kind` has it. */
+enum { SDD_OTHER = 0, SDD_CONTINUUM = 1, SDD_SPECTRAL_LINE = 2 };
+
+/* `about`, the entry's bytes 8 to 61 that a save puts into the index beside the scan's records. All
+ * numbers are big-endian, floats IEEE; every bit is kept as it is given. Its bytes:
+ *
+ *    0 to  3  horizontal coordinate in degrees (Real*4)
+ *    4 to  7  vertical coordinate in degrees (Real*4)
+ *    8 to 23  source name, 16 characters; by custom blanks at its end
+ *   24 to 27  scan number (Real*4)
+ *   28 to 31  spectral line: frequency resolution in MHz; continuum: slew rate in degrees a second (Real*4)
+ *   32 to 39  spectral line: rest frequency in MHz; continuum: integration time per point (Real*8)
+ *   40 to 43  LST in hours (Real*4)
+ *   44 to 47  UT date as YYYY.MMDD (Real*4)
+ *   48 to 49  mode: 256 + type code continuum, 512 + type code spectral line, codes 0 to 48 (Integer*2)
+ *   50 to 51  record x 64 + phase; -1 in files that hold no individual records (Integer*2)
+ *   52 to 53  position code (Integer*2) */
+#define SDD_ABOUT 54
+
+/* Stack that a call needs at most, in bytes: any call, and each. The tests measure it. */
+#define SDD_STACK (168 * 1024)
+#define SDD_STACK_OPEN (168 * 1024)
+#define SDD_STACK_LIST (168 * 1024)
+#define SDD_STACK_ENTRY_AT (168 * 1024)
+#define SDD_STACK_SHOW (168 * 1024)
+#define SDD_STACK_READ (168 * 1024)
+#define SDD_STACK_CLASS (1 * 1024)
+#define SDD_STACK_DATA (1 * 1024)
+#define SDD_STACK_BLANK (1 * 1024)
+#define SDD_STACK_SAVE (168 * 1024)
+#define SDD_STACK_KEEP (168 * 1024)
+#define SDD_STACK_CLEAR (168 * 1024)
+#define SDD_STACK_STEP (168 * 1024)
 
 /* Why a call was refused; {0, 0} where it was not. */
 typedef struct {
@@ -95,7 +160,7 @@ typedef struct {
   int16_t  mode;                 /* 256 to 304 continuum, 512 to 560 spectral line */
   int16_t  number;               /* record x 64 + phase */
   int16_t  position;             /* position code */
-  uint16_t kind;                 /* what the mode says: 0 other, 1 continuum, 2 spectral line */
+  uint16_t kind;                 /* what the mode says: SDD_OTHER, SDD_CONTINUUM or SDD_SPECTRAL_LINE */
   float    single_value;         /* the value of field4; some NaN where its bits are one's */
   double   double_value;         /* the value of field8 likewise */
 } sdd_entry;
@@ -125,7 +190,7 @@ typedef struct {
 /* What a step did, and the job to lend to the next one. */
 typedef struct {
   sdd_refusal why;
-  uint64_t done;    /* 0 wrote a record, 1 Saved, 2 Cleared */
+  uint64_t done;    /* SDD_WROTE, SDD_SAVED or SDD_CLEARED */
   uint64_t record;  /* the record written, 0 when confirming */
   uint64_t written; /* records written so far, this one included */
   sdd_job job;
@@ -192,7 +257,15 @@ sdd_begun sdd_clear(const uint8_t *file, size_t file_len, uint64_t slot);
  * the last write writes nothing, judges the file and compares what the job should have left there:
  * it alone answers Saved or Cleared. A confirmed job stepped again is judged again.
  *
- * Make each record durable before the next step. If the machine stops between two steps, or the job
+ * A step does no input or output: it writes into lent memory, and Saved is said of lent memory. Two
+ * things are the caller's, and without them Saved means nothing:
+ * - write the record that a step names to the device and make it durable before the next step;
+ * - lend the confirming step bytes READ BACK from the device, past the system's cache: records 1 to N
+ *   and the scan's records, in memory of the file's length. On the memory that the steps themselves
+ *   wrote, it answers Saved whatever became of the file.
+ * host/example/save.c does both.
+ *
+ * If the machine stops between two steps, or the job
  * is dropped, the file still opens, and the slot shows its old scan until the index record is
  * written and the new one from then on.
  *

@@ -17,6 +17,9 @@ pub enum Call {
     Entry,
     Show,
     Read,
+    /// The last class of the scan, and its data.
+    Class,
+    Data,
     Blank,
     /// The beginning of a save of so many bytes to the last slot.
     BeginSave(usize),
@@ -36,6 +39,8 @@ impl fmt::Display for Call {
             Call::Entry => f.write_str("entry"),
             Call::Show => f.write_str("show"),
             Call::Read => f.write_str("read"),
+            Call::Class => f.write_str("class"),
+            Call::Data => f.write_str("data"),
             Call::Blank => f.write_str("blank"),
             Call::BeginSave(bytes) => write!(f, "begin save {bytes}"),
             Call::BeginKeep(bytes) => write!(f, "begin keep {bytes}"),
@@ -98,6 +103,8 @@ impl Stage {
                 Call::Entry => _ = black_box((calls.entry_at)(at, len, middle)),
                 Call::Show => _ = black_box((calls.show)(at, len, middle)),
                 Call::Read => _ = black_box((calls.read)(at, len, middle)),
+                Call::Class => _ = black_box((calls.class)(scan, scan_len, 13)),
+                Call::Data => _ = black_box((calls.data)(scan, scan_len)),
                 Call::Blank => _ = black_box((calls.blank)(at, len, self.file.plan.n() as u64, L as u64, M as u64)),
                 Call::BeginSave(_) => {
                     black_box((calls.save)(at, len, self.slot(), scan, scan_len, ABOUT.as_ptr()));
@@ -118,12 +125,24 @@ impl Stage {
 
     /// A save from its beginning to its last step's answer.
     pub fn save(&mut self, calls: &Calls) -> Stepped {
+        let job = self.begin_save(calls);
+        self.steps(calls, job, self.scan.as_ptr(), self.scan.len())
+    }
+
+    fn begin_save(&self, calls: &Calls) -> Job {
         let (at, len) = (self.file.map.pointer(), self.file.map.size());
         let (scan, scan_len) = (self.scan.as_ptr(), self.scan.len());
         // SAFETY: as in `make`.
         let begun = unsafe { (calls.save)(at, len, self.slot(), scan, scan_len, ABOUT.as_ptr()) };
         assert!(begun.why.number == 0, "save refused: {:?}", begun.why);
-        self.steps(calls, begun.job, scan, scan_len)
+        begun.job
+    }
+
+    /// The steps of a save that has been begun: each of them, without the beginning.
+    pub fn steps_of_save(&mut self, calls: &Calls) -> impl FnMut() {
+        let job = self.begin_save(calls);
+        let calls = *calls;
+        move || _ = self.steps(&calls, job, self.scan.as_ptr(), self.scan.len())
     }
 
     /// A clear, in the same way.

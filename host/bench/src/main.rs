@@ -59,10 +59,10 @@ fn main() -> ExitCode {
     let depths = stack::depths(&library);
     if !quick {
         let rows: Vec<Vec<String>> =
-            depths.iter().map(|(call, depth)| vec![call.to_string(), depth.to_string()]).collect();
+            depths.iter().map(|depth| vec![format!("sdd_{}", depth.name), depth.bytes.to_string()]).collect();
         table::print(&["call", "deepest stack, bytes"], &rows);
     }
-    let deepest = depths.iter().map(|(_, depth)| *depth).max().unwrap_or(0);
+    let deepest = depths.iter().map(|depth| depth.bytes).max().unwrap_or(0);
     let left_alone = std::env::current_exe().is_ok_and(|path| closed::is_left_alone(&path));
     targets::print(&targets::verdicts(&lines, &of_library, deepest, left_alone));
     ExitCode::SUCCESS

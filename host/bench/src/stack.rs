@@ -55,29 +55,41 @@ pub fn depth(call: &mut dyn FnMut()) -> usize {
     work.top - (base + lowest)
 }
 
-/// The deepest stack of each call, over the orders of the index.
-pub fn depths(calls: &Calls) -> Vec<(Call, usize)> {
-    let every = [
-        Call::Open,
-        Call::List,
-        Call::Entry,
-        Call::Show,
-        Call::Read,
-        Call::Blank,
-        Call::BeginSave(65_536),
-        Call::BeginKeep(65_536),
-        Call::BeginClear,
-        Call::Save(65_536),
-        Call::Clear(65_536),
+/// A call by its name in the header, and its deepest stack in bytes.
+pub struct Depth {
+    pub name: &'static str,
+    pub bytes: usize,
+}
+
+/// The deepest stack of each call of the header, over the orders of the index.
+pub fn depths(calls: &Calls) -> Vec<Depth> {
+    let alone = [
+        ("open", Call::Open),
+        ("list", Call::List),
+        ("entry_at", Call::Entry),
+        ("show", Call::Show),
+        ("read", Call::Read),
+        ("class", Call::Class),
+        ("data", Call::Data),
+        ("blank", Call::Blank),
+        ("save", Call::BeginSave(65_536)),
+        ("keep", Call::BeginKeep(65_536)),
+        ("clear", Call::BeginClear),
     ];
-    every
-        .map(|call| {
-            let of = |order| {
-                let plan = Plan { slots: 4096, used: 4000, run: 128, gap: 1, order, room: MOST };
-                let mut stage = Stage::new(File::new(plan), call);
-                depth(&mut || stage.make(calls, call))
-            };
-            (call, Order::ALL.map(of).into_iter().max().unwrap())
-        })
-        .to_vec()
+    let mut depths: Vec<Depth> = alone
+        .map(|(name, call)| Depth { name, bytes: deepest(call, &|stage| depth(&mut || stage.make(calls, call))) })
+        .into();
+    // the steps of a save are every kind of step there is; a clear has one kind less
+    let step = deepest(Call::Save(65_536), &|stage| depth(&mut stage.steps_of_save(calls)));
+    depths.push(Depth { name: "step", bytes: step });
+    depths
+}
+
+/// The most that is measured, over files in every order.
+fn deepest(call: Call, measure: &dyn Fn(&mut Stage) -> usize) -> usize {
+    let of = |order| {
+        let plan = Plan { slots: 4096, used: 4000, run: 128, gap: 1, order, room: MOST };
+        measure(&mut Stage::new(File::new(plan), call))
+    };
+    Order::ALL.map(of).into_iter().max().unwrap()
 }

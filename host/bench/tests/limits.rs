@@ -22,10 +22,17 @@ fn no_call_grows_with_the_records() {
     }
 }
 
+/// The stand-in has its tables elsewhere, so that the figures are only limits for it.
 #[test]
-fn the_stack_stays_within_192_kib() {
-    for (call, depth) in stack::depths(&sdd::calls()) {
-        assert!(depth <= 192 * 1024, "{call} uses {depth} bytes of stack");
+fn every_call_keeps_to_the_stack_that_is_said_of_it() {
+    let measured = stack::depths(&sdd::calls());
+    assert_eq!(measured.iter().map(|depth| depth.name).collect::<std::collections::BTreeSet<_>>().len(), 12);
+    for (name, most) in sdd::stack::ALL {
+        let depth = measured.iter().find(|depth| depth.name == name).expect("every call is measured").bytes;
+        assert!(depth <= most, "sdd_{name} uses {depth} bytes of stack, and {most} are said to be enough");
+        let is_true = cfg!(feature = "stand-in") || depth + depth / 8 + 1_024 >= most;
+        assert!(is_true, "sdd_{name} is said to need {most} bytes of stack, and uses {depth}");
+        assert!(most <= sdd::stack::MOST);
     }
 }
 

@@ -1,0 +1,127 @@
+/* stack: makes every call on full files of 4,096 slots, and holds the stack that each of them used
+ * against what sdd.h says that it needs at most. host/bench does the same for the machine's own code.
+ */
+#include "sdd.h"
+
+/* The C library by hand: the toolchain has no headers of it. */
+void *mmap(void *at, size_t len, int prot, int flags, int fd, long offset);
+int printf(const char *format, ...);
+
+enum { READ_WRITE = 3, PRIVATE_ANONYMOUS_NORESERVE = 0x4022 };
+enum { PAINTED = 512 * 1024, PAINT = 0xa5 };
+enum { N = 513, L = 512, M = 64, USED = 4000, RUN = 128, ROOM = 1000000, SCAN = 65536 };
+
+static uint8_t *file, scan[SCAN], about[54];
+static const size_t LEN = (size_t)ROOM * L;
+static uint32_t out[3 * 4096];
+static sdd_job job;
+
+/* ---- a file with scans in rising or falling order, and a scan */
+
+static void put(uint8_t *at, int len, uint64_t number) {
+  while (len-- > 0) {
+    at[len] = (uint8_t)number;
+    number >>= 8;
+  }
+}
+
+static void make_scan(uint8_t *at, uint32_t data) {
+  int class;
+  put(at, 2, 13);
+  for (class = 1; class <= 13; class++) put(at + 2 * class, 2, class == 1 ? 5 : 19 + class);
+  put(at + 32, 8, 0x4070000000000000); /* 256 */
+  put(at + 40, 8, data);
+}
+
+static void make_file(int falls) {
+  static const uint32_t words[] = {N, USED * (RUN + 1), L, M, USED, 7, 0, 1};
+  uint32_t slot, first;
+  for (slot = 0; slot < 8; slot++) put(file + 4 * slot, 4, words[slot]);
+  for (slot = 1; slot <= USED; slot++) {
+    first = N + 1 + (falls ? USED - slot : slot - 1) * (RUN + 1);
+    put(file + L + (slot - 1) * M, 4, first);
+    put(file + L + (slot - 1) * M + 4, 4, first + RUN - 1);
+    make_scan(file + (uint64_t)(first - 1) * L, 0);
+  }
+}
+
+/* ---- the calls */
+
+static void open_it(void) { sdd_open(file, LEN); }
+static void list(void) { sdd_list(file, LEN, out, 3 * 4096); }
+static void entry_at(void) { sdd_entry_at(file, LEN, USED); }
+static void show(void) { sdd_show(file, LEN, USED); }
+static void read_it(void) { sdd_read(file, LEN, USED); }
+static void class(void) { sdd_class(scan, SCAN, 13); }
+static void data(void) { sdd_data(scan, SCAN); }
+static void blank(void) { sdd_blank(file, LEN, N, L, M); }
+static void save(void) { job = sdd_save(file, LEN, 4096, scan, SCAN, about).job; }
+static void keep(void) { sdd_keep(file, LEN, scan, SCAN, about); }
+static void clear(void) { sdd_clear(file, LEN, USED); }
+static void step(void) {
+  sdd_stepped stepped;
+  do {
+    stepped = sdd_step(file, LEN, scan, SCAN, job);
+    job = stepped.job;
+  } while (stepped.why.number == 0 && stepped.done == SDD_WROTE);
+}
+
+static const struct {
+  const char *name;
+  void (*call)(void);
+  long most;
+} CALLS[] = {
+    {"open", open_it, SDD_STACK_OPEN},
+    {"list", list, SDD_STACK_LIST},
+    {"entry_at", entry_at, SDD_STACK_ENTRY_AT},
+    {"show", show, SDD_STACK_SHOW},
+    {"read", read_it, SDD_STACK_READ},
+    {"class", class, SDD_STACK_CLASS},
+    {"data", data, SDD_STACK_DATA},
+    {"keep", keep, SDD_STACK_KEEP},
+    {"clear", clear, SDD_STACK_CLEAR},
+    {"save", save, SDD_STACK_SAVE},
+    {"step", step, SDD_STACK_STEP},
+    {"blank", blank, SDD_STACK_BLANK},
+};
+
+/* ---- the stack below this program's own, painted before a call and looked at after it */
+
+static __attribute__((noinline)) void paint(void) {
+  volatile uint8_t below[PAINTED];
+  long i;
+  for (i = 0; i < PAINTED; i++) below[i] = PAINT;
+}
+
+static __attribute__((noinline)) long used(void) {
+  volatile uint8_t below[PAINTED];
+  long i = 0;
+  while (i < PAINTED && below[i] == PAINT) i++;
+  return PAINTED - i;
+}
+
+static __attribute__((noinline)) long depth(void (*call)(void)) {
+  paint();
+  call();
+  return used();
+}
+
+int main(void) {
+  unsigned i, wrong = 0;
+  int falls;
+  file = mmap(NULL, LEN, READ_WRITE, PRIVATE_ANONYMOUS_NORESERVE, -1, 0);
+  if (file == (uint8_t *)-1) return 2;
+  make_scan(scan, 0);
+  put(scan + 40, 8, 0x40efe00000000000); /* 65,280 */
+  for (falls = 0; falls <= 1; falls++) {
+    make_file(falls);
+    for (i = 0; i < sizeof CALLS / sizeof *CALLS; i++) {
+      long bytes = depth(CALLS[i].call);
+      int holds = bytes <= CALLS[i].most;
+      wrong += !holds;
+      printf("  sdd_%-9s%8ld bytes of stack, at most %ld%s\n", CALLS[i].name, bytes, CALLS[i].most,
+             holds ? "" : ": TOO MUCH");
+    }
+  }
+  return wrong != 0 || job.written != 130;
+}
