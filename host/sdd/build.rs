@@ -9,15 +9,10 @@ fn main() {
         return;
     }
     let Some(path) = env::var_os("SDD_LIB") else {
-        stop(
-            "SDD_LIB is not set, so there is no proved library to link: build with ./rinzo or .ci/run at the repository's top, which set it",
-        );
+        stop(&format!("SDD_LIB is not set, so there is no proved library to link: {}", what_to_do()));
     };
     let Ok(path) = Path::new(&path).canonicalize() else {
-        stop(&format!(
-            "SDD_LIB names {}, which is not there: build with ./rinzo or .ci/run at the repository's top",
-            path.display()
-        ));
+        stop(&format!("SDD_LIB names {}, which is not there: {}", path.display(), what_to_do()));
     };
     println!("cargo::rerun-if-changed={}", path.display());
     // An archive of our own around it gives the library one name for the linker, whether
@@ -26,6 +21,15 @@ fn main() {
     archive(&path, &Path::new(&out).join("libsdd_proved.a"));
     println!("cargo::rustc-link-search=native={out}");
     println!("cargo::rustc-link-lib=static=sdd_proved");
+}
+
+/// The line that builds any crate with this one in it, wherever that crate lies.
+fn what_to_do() -> String {
+    let host = Path::new(&env::var_os("CARGO_MANIFEST_DIR").unwrap()).join("..").canonicalize();
+    let library = host.unwrap_or_default().join("library");
+    let target = env::var("TARGET").unwrap();
+    let word = if env::var("HOST") == Ok(target.clone()) { String::new() } else { format!(" {target}") };
+    format!("build with `SDD_LIB=$('{}'{word}) cargo build`", library.display())
 }
 
 /// Copies an archive, or puts an object into a new one with `ar`.
