@@ -83,7 +83,7 @@ pub fn verdicts(lines: &[Line], growths: &[Growth], stack: usize, left_alone: bo
         Verdict {
             target: "deepest stack, KiB",
             value: stack as f64 / 1024.0,
-            limit: 192.0,
+            limit: sdd::stack::MOST as f64 / 1024.0,
             place: "any call".to_string(),
         },
     ]

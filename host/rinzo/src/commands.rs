@@ -7,7 +7,9 @@ mod change;
 mod check;
 mod classes;
 mod demo;
+mod each;
 mod entry;
+mod install;
 mod list;
 mod pages;
 
@@ -26,6 +28,7 @@ pub fn run(verb: Verb, args: &Args, out: &Out) -> Result<(), Failure> {
         Verb::Completion => pages::completion(args, out),
         Verb::Demo => demo::run(args, out),
         Verb::Entry => entry::run(args, out),
+        Verb::Install => install::run(args, out),
         Verb::Keep => change::keep(args, out),
         Verb::List => list::run(args, out),
         Verb::Manual => pages::manual(out),

@@ -14,17 +14,44 @@ mod words;
 
 use say::failure::Failure;
 use say::out::Out;
+use say::shown;
 use std::ffi::OsString;
+use std::path::Path;
 use std::process::ExitCode;
 use words::nearest::hint;
 use words::table::{COMMANDS, Command, find};
 use words::{args, help};
 
+/// What the work needs of stack beyond the library's calls.
+const OWN_STACK: usize = 1 << 20;
+
+/// The library's calls need more stack than a limit may leave to this thread, so the work has one of its own.
 fn main() -> ExitCode {
+    let thread = std::thread::Builder::new().stack_size(sdd::stack::MOST + OWN_STACK);
+    let signals = file::sys::leave_interrupts();
+    let work = move || {
+        file::sys::take(&signals);
+        work()
+    };
+    match thread.spawn(work).map(|work| work.join()) {
+        Ok(Ok(status)) => status,
+        // it panicked, and has said so
+        Ok(Err(_)) => ExitCode::from(101),
+        Err(error) => {
+            eprintln!("rinzo: there is no memory for a thread to work on: {error}");
+            ExitCode::from(74)
+        }
+    }
+}
+
+fn work() -> ExitCode {
     file::sys::ignore_file_size_signal();
     let words: Vec<_> = std::env::args_os().skip(1).collect();
-    let out = Out { json: words.iter().take_while(|word| *word != "--").any(|word| word == "--json") };
-    match run(&words, &out) {
+    let json = words.iter().take_while(|word| *word != "--").any(|word| word == "--json");
+    let out = Out { json, is_closed: file::sys::output_was_closed() };
+    // it may stand before the command too
+    let before = words.iter().take_while(|word| *word == "--json").count();
+    match run(&words[before..], &out) {
         Ok(()) => ExitCode::SUCCESS,
         Err(failure) => {
             out.failure(&failure);
@@ -57,7 +84,7 @@ fn run(words: &[OsString], out: &Out) -> Result<(), Failure> {
 
 /// The command of this name.
 fn command(name: &OsString) -> Result<&'static Command, Failure> {
-    let name = name.to_string_lossy();
+    let name = shown::name(Path::new(name));
     find(&name).ok_or_else(|| {
         let near = hint(&name, "", COMMANDS.iter().map(|command| command.name));
         let end = if near.is_empty() { "." } else { "" };

@@ -1,7 +1,9 @@
 //! What is said: to people, to programs, on failure, and while long work goes on.
-//! From the ground up: `json`, `failure`, `out` and `progress`.
+//! From the ground up: `shown` and `json`, `refused`, `failure`, `out` and `progress`.
 
 pub mod failure;
 pub mod json;
 pub mod out;
 pub mod progress;
+pub mod refused;
+pub mod shown;

@@ -36,20 +36,11 @@ fn example(folder: &Path) -> PathBuf {
     program
 }
 
-/// A device that says yes to every write and keeps nothing, to be put before the system's own.
+/// A device that says yes to every write and keeps nothing.
 const LIAR: &str = "#include <unistd.h>
 ssize_t pwrite(int fd, const void *bytes, size_t len, off_t at) { (void)fd; (void)bytes; (void)at; return (ssize_t)len; }
 ssize_t pwrite64(int fd, const void *bytes, size_t len, off_t at) { return pwrite(fd, bytes, len, at); }
 ";
-
-/// The liar, built.
-fn liar(folder: &Path) -> PathBuf {
-    let (source, made) = (folder.join("liar.c"), folder.join("liar.so"));
-    fs::write(&source, LIAR).unwrap();
-    let built = Command::new("cc").args(["-shared", "-fPIC", "-o"]).arg(&made).arg(&source).output().unwrap();
-    assert!(built.status.success(), "{}", said(&built));
-    made
-}
 
 /// Runs the example, with a limit on file sizes in blocks of 512 bytes where one is given.
 fn save(folder: &Path, program: &Path, words: &str, blocks: Option<u32>) -> Output {
@@ -91,7 +82,7 @@ fn the_example_in_c_saves_and_tells_the_truth() {
 #[test]
 fn a_device_that_keeps_nothing_is_never_believed() {
     let folder = folder("liar");
-    let (program, liar) = (example(&folder), liar(&folder));
+    let (program, liar) = (example(&folder), common::shim(&folder, LIAR));
     paper_file(&folder);
     let name = scan_file(&folder, 1_000, 1);
     let before = fs::read(folder.join("f.sdd")).unwrap();

@@ -25,7 +25,7 @@ fn the_papers_run() {
     assert_eq!(records(&saved), [4, 5, 1, 2]);
     assert!(saved.ends_with("saved: slot 1 first 4 last 5\n"), "{saved}");
     assert_eq!(records(&wrote(&folder, &["save", "f.sdd", "9", &short])), [6, 1, 3]);
-    assert_eq!(records(&wrote(&folder, &["save", "f.sdd", "1", &again])), [7, 8, 1, 2]);
+    assert_eq!(records(&wrote(&folder, &["save", "f.sdd", "1", &again, "--replace"])), [7, 8, 1, 2]);
     assert_eq!(wrote(&folder, &["list", "f.sdd"]), "slots 16 used 9 scans 2\n1 7 8\n9 6 6\n");
 
     let two = scan_file(&folder, 1_024, 4);
@@ -78,13 +78,13 @@ fn no_file_is_overwritten_by_surprise() {
 fn blank_by_force_keeps_the_length_and_what_lies_beyond() {
     let folder = folder("by_force");
     fs::write(folder.join("f.sdd"), vec![7; 5_000]).unwrap();
-    wrote(&folder, &["blank", "f.sdd", "--n", "2", "--room", "3", "--force"]);
+    wrote(&folder, &["blank", "f.sdd", "--n", "2", "--l", "512", "--room", "3", "--force"]);
     let bytes = fs::read(folder.join("f.sdd")).unwrap();
     assert_eq!(bytes.len(), 5_000);
     assert!(bytes[1_024..].iter().all(|byte| *byte == 7));
     assert_eq!(wrote(&folder, &["list", "f.sdd"]), "slots 8 used 0 scans 0\n");
     // a longer room makes it longer
-    wrote(&folder, &["blank", "f.sdd", "--n", "2", "--room", "20", "--force"]);
+    wrote(&folder, &["blank", "f.sdd", "--n", "2", "--l", "512", "--room", "20", "--force"]);
     assert_eq!(fs::metadata(folder.join("f.sdd")).unwrap().len(), 20 * 512);
 }
 
@@ -144,18 +144,18 @@ fn refusals_are_the_status_and_a_sentence() {
     fs::write(folder.join("long"), vec![0; 70_000]).unwrap();
     assert!(refused(&folder, &["keep", "f.sdd", "long"]).1.contains("rule 1"));
     for _ in 0..5 {
-        wrote(&folder, &["keep", "f.sdd", &name]);
+        wrote(&folder, &["keep", "f.sdd", &name, "--again"]);
     }
-    assert_eq!(refused(&folder, &["keep", "f.sdd", &name]).0, 13);
+    assert_eq!(refused(&folder, &["keep", "f.sdd", &name, "--again"]).0, 13);
 }
 
 #[test]
 fn a_full_index_is_refusal_12() {
     let folder = folder("full_index");
-    wrote(&folder, &["blank", "f.sdd", "--n", "2", "--m", "512", "--room", "8"]);
-    let name = scan_file(&folder, 512, 1);
+    wrote(&folder, &["blank", "f.sdd", "--n", "2", "--l", "512", "--m", "512", "--room", "8"]);
+    let (name, other) = (scan_file(&folder, 512, 1), scan_file(&folder, 512, 2));
     wrote(&folder, &["keep", "f.sdd", &name]);
-    assert_eq!(refused(&folder, &["keep", "f.sdd", &name]).0, 12);
+    assert_eq!(refused(&folder, &["keep", "f.sdd", &other]).0, 12);
 }
 
 #[test]
@@ -170,12 +170,12 @@ fn wrong_usage_is_64_and_says_what_is_wrong() {
         (&["keep", "f.sdd", "scan", "--sorce", "ORION"], "--sorce is no option of keep; did you mean --source?"),
         (&["completion", "bsh"], "bsh is none; did you mean bash?"),
         (&["list", "f.sdd", "-x"], "-x is no option of list"),
-        (&["entry", "f.sdd", "--", "--help"], "SLOT is a number, and --help is none"),
+        (&["entry", "f.sdd", "--", "--help"], "SLOT is a whole number from 1 on, and --help is none"),
         (&["list"], "FILE is missing"),
-        (&["list", "f.sdd", "1"], "one word too many"),
+        (&["entry", "f.sdd", "1", "2"], "one word too many"),
         (&["list", "f.sdd", "--lon"], "--lon is no option of list; did you mean --long?"),
-        (&["entry", "f.sdd", "one"], "SLOT is a number"),
-        (&["entry", "f.sdd", "-1"], "SLOT is a number"),
+        (&["entry", "f.sdd", "one"], "SLOT is a whole number from 1 on, and one is none"),
+        (&["entry", "f.sdd", "-1"], "-1 is below zero"),
         (&["blank", "g.sdd", "--n"], "--n wants a value"),
         (&["blank", "g.sdd", "--n", "x"], "--n wants a whole number"),
         (&["list", "f.sdd", "--long=1"], "--long takes no value"),
@@ -279,16 +279,21 @@ fn programs_get_json() {
     assert_eq!(lines[4], "{\"event\":\"saved\",\"slot\":3,\"first\":4,\"last\":4}");
     assert_eq!(
         wrote(&folder, &["list", "f.sdd", "--json"]),
-        "{\"slots\":16,\"used\":3,\"scans\":[{\"slot\":3,\"first\":4,\"last\":4}]}\n"
+        "{\"file\":\"f.sdd\",\"slots\":16,\"used\":3,\"scans\":[{\"slot\":3,\"first\":4,\"last\":4}]}\n"
     );
     let output = run(&folder, &["clear", "f.sdd", "2", "--json"]);
     assert_eq!(output.status.code(), Some(10));
     assert!(
-        String::from_utf8(output.stdout).unwrap().starts_with("{\"refused\":10,\"slot\":0,\"sentence\":\"refused 10: ")
+        String::from_utf8(output.stdout)
+            .unwrap()
+            .starts_with("{\"refused\":10,\"slot\":2,\"file\":\"f.sdd\",\"sentence\":")
     );
     assert!(output.stderr.is_empty());
-    assert!(wrote(&folder, &["check", "f.sdd", "--json"]).starts_with("{\"n\":3,\"d\":1,\"l\":512,"));
-    assert!(wrote(&folder, &["clear", "f.sdd", "3", "--json"]).ends_with("{\"event\":\"cleared\",\"slot\":3}\n"));
+    assert!(
+        wrote(&folder, &["check", "f.sdd", "--json"]).starts_with("{\"file\":\"f.sdd\",\"n\":3,\"d\":1,\"l\":512,")
+    );
+    let cleared = wrote(&folder, &["clear", "f.sdd", "3", "--yes", "--json"]);
+    assert!(cleared.contains("\n{\"event\":\"cleared\",\"slot\":3,\"held\":{\"source\":\"\","), "{cleared}");
 }
 
 #[test]
@@ -296,7 +301,7 @@ fn help_is_everywhere() {
     let folder = folder("help");
     assert!(wrote(&folder, &["--help"]).contains("usage: rinzo COMMAND"));
     let commands = ["blank", "check", "list", "entry", "classes", "show", "read", "save", "keep", "clear", "demo"];
-    for command in commands.into_iter().chain(["completion", "manual"]) {
+    for command in commands.into_iter().chain(["completion", "manual", "install"]) {
         for words in [&[command, "--help"][..], &["help", command], &[command, "x", "-h"]] {
             assert!(wrote(&folder, words).starts_with(&format!("usage: rinzo {command} ")));
         }
@@ -310,7 +315,7 @@ fn help_groups_the_commands() {
     for (heading, commands) in [
         ("look at a file:", &["list", "check", "entry", "classes", "show", "read"][..]),
         ("change a file:", &["save", "keep", "clear"]),
-        ("make a file, and what goes with the program:", &["blank", "demo", "completion", "manual"]),
+        ("make a file, and what goes with the program:", &["blank", "demo", "install", "completion", "manual"]),
     ] {
         let group = groups.iter().find(|group| group.starts_with(heading)).unwrap_or_else(|| panic!("{help}"));
         let named: Vec<&str> = group.lines().skip(1).map(|line| line.trim().split(' ').next().unwrap()).collect();
@@ -321,7 +326,7 @@ fn help_groups_the_commands() {
 #[test]
 fn two_dashes_end_the_options() {
     let folder = folder("two_dashes");
-    wrote(&folder, &["blank", "--n", "3", "--room", "8", "--", "--force"]);
+    wrote(&folder, &["blank", "--n", "3", "--l", "512", "--room", "8", "--", "--force"]);
     assert_eq!(wrote(&folder, &["list", "--", "--force"]), "slots 16 used 0 scans 0\n");
     fs::write(folder.join("--json"), scan(512, 1)).unwrap();
     assert!(wrote(&folder, &["keep", "--", "--force", "--json"]).ends_with("saved: slot 1 first 4 last 4\n"));

@@ -17,7 +17,7 @@ const MIB: u64 = 1 << 20;
 /// Two files with the same index and scans, of 1,000 and of 1,000,000 records.
 fn small_and_large(folder: &Path) -> [&'static str; 2] {
     for (name, room) in [("small.sdd", "1000"), ("large.sdd", "1000000")] {
-        wrote(folder, &["blank", name, "--n", &N.to_string(), "--room", room]);
+        wrote(folder, &["blank", name, "--n", &N.to_string(), "--l", "512", "--room", room]);
         for slot in ["1", "2", "3"] {
             wrote(folder, &["save", name, slot, &scan_file(folder, 1_000, 1)]);
         }
@@ -28,7 +28,7 @@ fn small_and_large(folder: &Path) -> [&'static str; 2] {
 /// What a save of 1,000 bytes costs.
 fn save(folder: &Path, file: &str) -> Cost {
     let scan = scan_file(folder, 1_000, 2);
-    cost::of(rinzo(folder).args(["save", file, "2", &scan]))
+    cost::of(rinzo(folder).args(["save", file, "2", &scan, "--replace"]))
 }
 
 #[test]
@@ -52,7 +52,7 @@ fn bytes_read_and_memory_do_not_hang_on_the_files_length() {
 /// A file with 4,096 scans, each alone on its page of memory. It is not made in memory: what this process has, the
 /// system counts for a program that it starts.
 fn full_file(folder: &Path) {
-    wrote(folder, &["blank", "f.sdd", "--n", "513", "--room", "40000"]);
+    wrote(folder, &["blank", "f.sdd", "--n", "513", "--l", "512", "--room", "40000"]);
     let file = fs::OpenOptions::new().write(true).open(folder.join("f.sdd")).unwrap();
     for slot in 0..4_096u64 {
         let first = 514 + 8 * slot;

@@ -24,12 +24,12 @@ struct Cut {
 
 /// A file with scans in slots 1, 2 and 9, and free records between them and after them.
 fn busy_file(folder: &Path) {
-    wrote(folder, &["blank", "f.sdd", "--n", "3", "--room", "20"]);
+    wrote(folder, &["blank", "f.sdd", "--n", "3", "--l", "512", "--room", "20"]);
     for (slot, len, mark) in [("1", 1_000, 1), ("2", 512, 2), ("9", 1_536, 3), ("4", 700, 4)] {
         let name = scan_file(folder, len, mark);
         wrote(folder, &["save", "f.sdd", slot, &name]);
     }
-    wrote(folder, &["clear", "f.sdd", "4"]);
+    wrote(folder, &["clear", "f.sdd", "4", "--yes"]);
 }
 
 /// The jobs of the drill.
@@ -40,12 +40,12 @@ fn cuts(folder: &Path) -> Vec<Cut> {
         writes,
         after,
     };
-    let (one, two) = (scan_file(folder, 1_200, 5), scan_file(folder, 2_048, 6));
+    let (one, two, three) = (scan_file(folder, 1_200, 5), scan_file(folder, 2_048, 6), scan_file(folder, 1_200, 7));
     vec![
         job(&["save", "f.sdd", "16", &one], 16, 5, Some(padded(1_200, 5))),
-        job(&["save", "f.sdd", "1", &two], 1, 6, Some(padded(2_048, 6))),
-        job(&["keep", "f.sdd", &one], 3, 5, Some(padded(1_200, 5))),
-        job(&["clear", "f.sdd", "9"], 9, 2, None),
+        job(&["save", "f.sdd", "1", &two, "--replace"], 1, 6, Some(padded(2_048, 6))),
+        job(&["keep", "f.sdd", &three], 3, 5, Some(padded(1_200, 7))),
+        job(&["clear", "f.sdd", "9", "--yes"], 9, 2, None),
     ]
 }
 
@@ -162,7 +162,7 @@ fn a_job_has_the_file_alone() {
     for words in [
         &["save", "f.sdd", "5", &name][..],
         &["keep", "f.sdd", &name],
-        &["clear", "f.sdd", "1"],
+        &["clear", "f.sdd", "1", "--yes"],
         &["blank", "f.sdd", "--force"],
     ] {
         let (status, said) = refused(&folder, words);
@@ -211,7 +211,7 @@ fn a_short_write_drops_the_job() {
     assert_eq!(wrote(&folder, &["list", "f.sdd"]), "slots 16 used 0 scans 0\n");
 
     wrote(&folder, &["save", "f.sdd", "1", &first]);
-    let (status, said) = save_under_limit(&folder, &["save", "f.sdd", "1", &second], 3_072 - 1);
+    let (status, said) = save_under_limit(&folder, &["save", "f.sdd", "1", &second, "--replace"], 3_072 - 1);
     assert_eq!(status, 74);
     assert!(said.contains("511 of 512 bytes were written"), "{said}");
     assert!(said.contains("slot 1 shows the scan that it had before"), "{said}");

@@ -76,25 +76,28 @@ fn ctrl_c_drops_the_job_between_two_records_and_says_what_the_file_shows() {
     let folder = folder("ctrl_c");
     let name = file_with_a_scan(&folder);
     for (written, shows) in [
-        (1, "slot 1 shows the scan that it had before"),
-        (2, "slot 1 shows the scan that it had before"),
-        (3, "slot 1 shows the scan that it had before"),
-        (4, "slot 1 shows the new scan, which is not confirmed"),
+        (1, "slot 1 shows the scan that it had before: "),
+        (2, "slot 1 shows the scan that it had before: "),
+        (3, "slot 1 shows the scan that it had before: "),
+        (4, "slot 1 shows the new scan, which is not confirmed: "),
     ] {
-        let job = waiting(&folder, &["save", "f.sdd", "1", &name], written);
+        let job = waiting(&folder, &["save", "f.sdd", "1", &name, "--replace"], written);
         job.interrupt();
         let (status, printed, said) = job.go_on();
         assert_eq!(status, Some(130), "{said}");
         assert_eq!(printed, "");
-        assert_eq!(said, format!("rinzo: interrupted. The job is dropped; {shows}\n"));
+        assert!(said.starts_with(&format!("rinzo: f.sdd: interrupted. The job is dropped; {shows}")), "{said}");
         let shown = run(&folder, &["read", "f.sdd", "1"]).stdout;
         assert_eq!(shown, scan(1_000, if written < 4 { 1 } else { 2 }));
     }
-    let job = waiting(&folder, &["clear", "f.sdd", "1", "--json"], 1);
+    let job = waiting(&folder, &["clear", "f.sdd", "1", "--yes", "--json"], 1);
     job.interrupt();
     let (status, printed, _) = job.go_on();
     assert_eq!(status, Some(130));
-    assert!(printed.starts_with("{\"failed\":130,\"sentence\":\"interrupted. The job is dropped; slot 1"), "{printed}");
+    assert!(
+        printed.starts_with("{\"failed\":130,\"sentence\":\"f.sdd: interrupted. The job is dropped; slot 1"),
+        "{printed}"
+    );
     assert!(wrote(&folder, &["check", "f.sdd", "--scans"]).starts_with("good"));
 }
 
@@ -102,7 +105,7 @@ fn ctrl_c_drops_the_job_between_two_records_and_says_what_the_file_shows() {
 fn a_second_ctrl_c_ends_it_at_once() {
     let folder = folder("second_ctrl_c");
     let name = file_with_a_scan(&folder);
-    let mut job = waiting(&folder, &["save", "f.sdd", "1", &name], 1);
+    let mut job = waiting(&folder, &["save", "f.sdd", "1", &name, "--replace"], 1);
     job.interrupt();
     std::thread::sleep(std::time::Duration::from_millis(100));
     assert!(job.child.try_wait().unwrap().is_none(), "the first one ended a job that was in the middle of something");
@@ -130,7 +133,8 @@ fn a_job_in_the_background_takes_no_notice_of_ctrl_c() {
     let folder = folder("ctrl_c_background");
     let name = file_with_a_scan(&folder);
     let mut command = taking(libc::SIG_IGN, rinzo(&folder));
-    let job = command.args(["save", "f.sdd", "1", &name]).env("RINZO_DRILL", "wait:1").stdin(Stdio::piped());
+    let job =
+        command.args(["save", "f.sdd", "1", &name, "--replace"]).env("RINZO_DRILL", "wait:1").stdin(Stdio::piped());
     let mut child = job.stdout(Stdio::piped()).spawn().unwrap();
     let mut stdout = BufReader::new(child.stdout.take().unwrap());
     stdout.read_line(&mut String::new()).unwrap();
@@ -147,7 +151,7 @@ fn other_length(name: &str, len: u64, written: usize, part: &str) {
     let folder = folder(name);
     let scan_name = file_with_a_scan(&folder);
     let path = folder.join("f.sdd");
-    let job = waiting(&folder, &["save", "f.sdd", "1", &scan_name], written);
+    let job = waiting(&folder, &["save", "f.sdd", "1", &scan_name, "--replace"], written);
     OpenOptions::new().write(true).open(&path).unwrap().set_len(len).unwrap();
     let bytes = fs::read(&path).unwrap();
     let (status, printed, said) = job.go_on();

@@ -86,7 +86,7 @@ fn fish_completes() {
     let ask = |line: &str| {
         printed("fish", "fish", &folder, &["--no-config", "-c", &format!("source c.fish; complete -C '{line}'")])
     };
-    assert_eq!(ask("rinzo sa"), "save\tsave a scan to a slot, replacing the one it has\n");
+    assert_eq!(ask("rinzo sa"), "save\tsave a scan to a slot; over another scan only with --replace\n");
     assert_eq!(ask("rinzo list --lo"), "--long\tadd each scan's bytes, kind and source\n");
     assert_eq!(ask("rinzo completion z"), "zsh\n");
     assert!(ask("rinzo list c.").contains("c.fish"));
@@ -101,7 +101,7 @@ fn every_command_and_option_is_completed_and_in_the_man_page() {
     let manual = wrote(&folder, &["manual"]);
     let overview = wrote(&folder, &["--help"]);
     let commands: Vec<&str> = overview.lines().filter_map(|line| line.strip_prefix("  ")?.split(' ').next()).collect();
-    assert_eq!(commands.len(), 13, "{commands:?}");
+    assert_eq!(commands.len(), 14, "{commands:?}");
     for command in commands {
         assert!(texts.iter().all(|text| text.contains(command)), "{command}");
         assert!(manual.contains(&format!(".SS \\fB{command}\\fR")), "{command}");

@@ -36,7 +36,7 @@ fn said_on_terminal(folder: &Path, words: &[&str]) -> String {
 
 /// A file with 1,024 scans.
 fn many_scans(folder: &Path) {
-    wrote(folder, &["blank", "f.sdd", "--n", "129", "--room", "2000"]);
+    wrote(folder, &["blank", "f.sdd", "--n", "129", "--l", "512", "--room", "2000"]);
     let file = fs::OpenOptions::new().write(true).open(folder.join("f.sdd")).unwrap();
     for slot in 0..1_024u64 {
         file.write_all_at(&[(130 + slot as u32).to_be_bytes(); 2].concat(), 512 + 64 * slot).unwrap();
@@ -49,7 +49,7 @@ fn many_scans(folder: &Path) {
 
 /// Writes an entry by hand: a station's file may have scans longer than any that is saved here.
 fn one_long_run(folder: &Path, records: u32) {
-    wrote(folder, &["blank", "long.sdd", "--n", "3", "--room", "10000"]);
+    wrote(folder, &["blank", "long.sdd", "--n", "3", "--l", "512", "--room", "10000"]);
     let file = fs::OpenOptions::new().write(true).open(folder.join("long.sdd")).unwrap();
     for (at, word) in [(4, records), (16, 1), (512, 4), (516, 3 + records)] {
         file.write_all_at(&word.to_be_bytes(), at).unwrap();

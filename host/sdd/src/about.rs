@@ -1,6 +1,6 @@
 //! What a save puts into the index beside the scan's records: the entry's bytes 8 to 61, field by field.
 
-use crate::{Real4, Real8};
+use crate::real::{Real4, Real8};
 
 /// The entry's bytes 8 to 61 by field. Every bit of the 54 bytes belongs to a field, so nothing is lost either way.
 ///

@@ -9,7 +9,7 @@ pub trait Device {
     type Error;
 
     /// The file's length in bytes, as it is now.
-    fn len(&mut self) -> Result<u64, Self::Error>;
+    fn length(&mut self) -> Result<u64, Self::Error>;
 
     /// Fills `into` with the file's bytes from byte `at` on. They may come from a cache.
     fn read(&mut self, at: u64, into: &mut [u8]) -> Result<(), Self::Error>;

@@ -7,7 +7,11 @@
 //! [`save`], [`keep`] and [`clear`] do all of it. Who lends memory of their own, or wants to watch the records
 //! go by, begins a job by hand and calls [`run`].
 
-use crate::{About, Device, Job, Refusal, Step, open, step};
+use crate::about::About;
+use crate::device::Device;
+use crate::job::{self, Job, Step, step};
+use crate::look::open;
+use crate::refusal::Refusal;
 use std::fmt;
 use std::ops::{ControlFlow, Range};
 
@@ -45,7 +49,7 @@ pub enum Dropped<E> {
 /// What the device was asked for when it failed.
 #[derive(Clone, Copy, Debug, PartialEq, Eq)]
 pub enum Doing {
-    /// To read records 1 to N, before anything was written.
+    /// To tell its length, or to read records 1 to N.
     Reading,
     /// To write this record and to make it durable.
     Writing(u64),
@@ -67,21 +71,21 @@ pub struct Wrote {
 /// Saves a scan to a slot: refusals 1 to 9, 11, 13, 14, 15.
 pub fn save<D: Device>(device: &mut D, slot: u64, scan: &[u8], about: &About) -> Result<Confirmed, Dropped<D::Error>> {
     let mut file = look(device)?;
-    let job = crate::save(&file, slot, scan, about)?;
+    let job = job::save(&file, slot, scan, about)?;
     run(device, &mut file, scan, job, go_on)
 }
 
 /// Saves a scan to the lowest empty slot: refusals 1 to 8, 11 to 15.
 pub fn keep<D: Device>(device: &mut D, scan: &[u8], about: &About) -> Result<Confirmed, Dropped<D::Error>> {
     let mut file = look(device)?;
-    let job = crate::keep(&file, scan, about)?;
+    let job = job::keep(&file, scan, about)?;
     run(device, &mut file, scan, job, go_on)
 }
 
 /// Clears a slot: refusals 1 to 10, 14, 15.
 pub fn clear<D: Device>(device: &mut D, slot: u64) -> Result<Confirmed, Dropped<D::Error>> {
     let mut file = look(device)?;
-    let job = crate::clear(&file, slot)?;
+    let job = job::clear(&file, slot)?;
     run(device, &mut file, &[], job, go_on)
 }
 
@@ -94,7 +98,7 @@ fn go_on(_: Wrote) -> ControlFlow<()> {
 pub fn look<D: Device>(device: &mut D) -> Result<Vec<u8>, Dropped<D::Error>> {
     let failed = |error| Dropped::Failed(Doing::Reading, error);
     // zeroed memory that is never touched costs nothing on the systems this runs on
-    let mut file = vec![0; device.len().map_err(failed)? as usize];
+    let mut file = vec![0; device.length().map_err(failed)? as usize];
     let boot = BOOT.min(file.len());
     device.read(0, &mut file[..boot]).map_err(failed)?;
     let head = head(&file[..boot]).min(file.len());
@@ -127,6 +131,7 @@ pub fn run<D: Device>(
     let sizes = open(file)?;
     let of = job.records(sizes.l);
     while job.written() < of {
+        same_length(device, file.len(), Doing::Reading)?;
         let Step::Wrote { record, written } = step(file, scan, &mut job)? else { break };
         let at = (record - 1) * sizes.l;
         let bytes = &file[at as usize..][..sizes.l as usize];
@@ -138,6 +143,12 @@ pub fn run<D: Device>(
     }
     let head = 0..(sizes.n * sizes.l) as usize;
     confirm(device, file, scan, job, [head, data(&job, sizes.l)])
+}
+
+/// Refuses a file that something else has made shorter or longer, as a step does that is lent another length.
+fn same_length<D: Device>(device: &mut D, len: usize, doing: Doing) -> Result<(), Dropped<D::Error>> {
+    let now = device.length().map_err(|error| Dropped::Failed(doing, error))?;
+    if now == len as u64 { Ok(()) } else { Err(Dropped::Refused(Refusal::JobDisagrees)) }
 }
 
 /// The bytes of the records that a save writes its scan to; none for a clear.
@@ -155,11 +166,11 @@ fn confirm<D: Device>(
     parts: [Range<usize>; 2],
 ) -> Result<Confirmed, Dropped<D::Error>> {
     let failed = |error| Dropped::Failed(Doing::ReadingBack, error);
-    let is_within = parts.iter().all(|part| part.end <= file.len());
-    if !is_within || device.len().map_err(failed)? != file.len() as u64 {
+    same_length(device, file.len(), Doing::ReadingBack)?;
+    if parts.iter().any(|part| part.end > file.len()) {
         return Err(Dropped::Refused(Refusal::JobDisagrees));
     }
-    for part in parts {
+    for part in parts.into_iter().filter(|part| !part.is_empty()) {
         // a device that fills nothing in must not be believed for what memory still held
         file[part.clone()].fill(0);
         device.read_back(part.start as u64, &mut file[part]).map_err(failed)?;

@@ -1,6 +1,7 @@
 //! An index entry.
 
-use crate::{About, Real4, Real8};
+use crate::about::About;
+use crate::real::{Real4, Real8};
 use face::kind;
 
 /// What the mode says the two measured fields are.

@@ -26,7 +26,7 @@
 //!
 //! impl Device for Card {
 //!     type Error = std::convert::Infallible;
-//!     fn len(&mut self) -> Result<u64, Self::Error> {
+//!     fn length(&mut self) -> Result<u64, Self::Error> {
 //!         Ok(self.cells.len() as u64)
 //!     }
 //!     fn read(&mut self, at: u64, into: &mut [u8]) -> Result<(), Self::Error> {
@@ -66,7 +66,7 @@
 //! # What a call needs
 //! Every call takes every input: what it cannot do it refuses with a
 //! [`Refusal`], and a refused call has changed nothing. A call needs up to
-//! [`stack::MOST`] bytes of stack: more than some threads have.
+//! 168 KiB of [`stack`]: more than some threads have.
 
 mod about;
 mod device;
@@ -89,6 +89,11 @@ pub use look::{Listed, Span, class, classes, data, entry, list, open, read, show
 pub use real::{Real4, Real8};
 pub use refusal::{Refusal, Rule};
 pub use sizes::Sizes;
+
+/// The numbers of the C face by name, for programs that keep or send them. Here the enums stand for them.
+pub mod numbers {
+    pub use face::{done, kind, refused};
+}
 
 /// The table of calls that this crate was linked with, for the comparison with the model.
 #[doc(hidden)]

@@ -1,7 +1,6 @@
 //! Why a call was refused, and what to do about it.
 
 use face::refused;
-use std::fmt;
 
 /// Why a call was refused. The paper numbers them; [`Refusal::number`] gives
 /// the number, and the `Display` form is a sentence that says what to do.
@@ -130,16 +129,3 @@ impl Refusal {
         }
     }
 }
-
-impl fmt::Display for Refusal {
-    fn fmt(&self, f: &mut fmt::Formatter) -> fmt::Result {
-        match self {
-            Refusal::BadEntry(slot) | Refusal::EntryAboveUsed(slot) | Refusal::SharedRecord(slot) => {
-                write!(f, "slot {slot}: {}", self.sentence())
-            }
-            _ => f.write_str(self.sentence()),
-        }
-    }
-}
-
-impl std::error::Error for Refusal {}

@@ -24,8 +24,8 @@ enum Fault {
     ReadBack,
     /// Reading back says yes and fills nothing in.
     EmptyReadBack,
-    /// The file is a byte shorter when it is read back.
-    CutShort,
+    /// The file is a byte shorter once this many records are written.
+    CutShort(u64),
 }
 
 /// A device with a cache in front of it: reads come from the cache, and what was read back from the cells.
@@ -48,9 +48,9 @@ impl Card {
 impl Device for Card {
     type Error = &'static str;
 
-    fn len(&mut self) -> Result<u64, Self::Error> {
-        let cut = self.fault == Fault::CutShort && self.writes > 0;
-        Ok(self.cells.len() as u64 - u64::from(cut))
+    fn length(&mut self) -> Result<u64, Self::Error> {
+        let is_cut = matches!(self.fault, Fault::CutShort(at) if self.writes >= at);
+        Ok(self.cells.len() as u64 - u64::from(is_cut))
     }
 
     fn read(&mut self, at: u64, into: &mut [u8]) -> Result<(), Self::Error> {
@@ -150,7 +150,10 @@ fn keep_and_clear_go_the_same_way() {
     let mut card = Card::new(cells(), Fault::None);
     let kept = drive::keep(&mut card, &scan(512, 3), &About::default());
     assert_eq!(kept, Ok(Confirmed::Saved { slot: 2, first: 6, last: 6 }));
+    card.asked.clear();
     assert_eq!(drive::clear(&mut card, 1), Ok(Confirmed::Cleared { slot: 1 }));
+    let wanted = ["read 32 at 0", "read 1536 at 0", "write 512 at 0", "flush", "write 512 at 512", "flush"];
+    assert_eq!(card.asked, [&wanted[..], &["read back 1536 at 0"]].concat());
     assert_eq!(sdd::list(&card.cells).unwrap().len(), 1);
     assert_eq!(drive::clear(&mut card, 1), Err(Dropped::Refused(Refusal::EmptySlot)));
     card.fault = Fault::LyingFlush(card.flushes);
@@ -178,7 +181,7 @@ fn a_device_that_fails_is_named_and_the_file_stays_good() {
 #[test]
 fn a_device_that_lies_is_never_believed() {
     let lies = (0..4).flat_map(|turn| [Fault::LyingFlush(turn), Fault::Flip(turn)]);
-    for fault in lies.chain([Fault::EmptyReadBack, Fault::CutShort]) {
+    for fault in lies.chain([Fault::EmptyReadBack]) {
         for slot in [1, 9] {
             let (ended, card) = save(fault, slot);
             // the bytes of record 1 after word 8 are nobody's, so a bit that turns there harms no scan
@@ -191,6 +194,16 @@ fn a_device_that_lies_is_never_believed() {
             assert!(is_other_entry || matches!(ended, Err(Dropped::Refused(_))), "{fault:?}: {ended:?}");
             sdd::open(&card.cells).expect("the file opens");
         }
+    }
+}
+
+#[test]
+fn a_file_that_is_cut_short_meanwhile_is_refused_at_the_next_step() {
+    for written in 1..=4 {
+        let (ended, card) = save(Fault::CutShort(written), 9);
+        assert_eq!(ended, Err(Dropped::Refused(Refusal::JobDisagrees)));
+        assert_eq!(card.writes, written, "nothing is written after it");
+        others_stay(&card, 9);
     }
 }
 

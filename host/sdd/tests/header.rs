@@ -46,7 +46,7 @@ fn the_header_names_every_number() {
     let mut wanted: BTreeMap<String, usize> =
         refusals().into_iter().map(|refusal| (c_name(refusal), refusal.number() as usize)).collect();
     assert_eq!(wanted.len(), 17);
-    use face::{done, kind};
+    use sdd::numbers::{done, kind};
     wanted.extend(
         [("WROTE", done::WROTE), ("SAVED", done::SAVED), ("CLEARED", done::CLEARED)]
             .map(|(name, number)| (format!("SDD_{name}"), number as usize)),
@@ -59,6 +59,35 @@ fn the_header_names_every_number() {
     wanted.insert("SDD_STACK".to_string(), sdd::stack::MOST);
     wanted.insert("SDD_ABOUT".to_string(), About::default().bytes().len());
     assert_eq!(constants(), wanted);
+}
+
+/// Each field's first and last byte in a comment's line, as ` *   24 to 27  scan number (Real*4)`, and its words.
+fn field(line: &str) -> Option<(usize, usize, &str)> {
+    let (first, rest) = line.strip_prefix(" * ")?.trim_start().split_once(" to ")?;
+    let (last, words) = rest.trim_start().split_once("  ")?;
+    Some((first.parse().ok()?, last.parse().ok()?, words))
+}
+
+#[test]
+fn the_header_has_the_layout_of_the_54_bytes() {
+    let header = std::fs::read_to_string(root().join("include/sdd.h")).unwrap();
+    let about = header.split("/* `about`").nth(1).and_then(|rest| rest.split("#define SDD_ABOUT").next()).unwrap();
+    let fields: Vec<(usize, usize, &str)> = about.lines().filter_map(field).collect();
+    assert_eq!(fields.len(), 11);
+    assert_eq!((fields[0].0, fields[10].1), (0, 53));
+    assert!(fields.windows(2).all(|pair| pair[0].1 + 1 == pair[1].0), "{fields:?}");
+    let names =
+        ["horizontal", "vertical", "source", "scan", "spectral", "spectral", "LST", "UT", "mode", "record", "position"];
+    assert!(fields.iter().zip(names).all(|((_, _, words), name)| words.starts_with(name)), "{fields:?}");
+    assert_eq!((about_at(24).scan.bits(), about_at(32).field8.bits()), (1 << 24, 1 << 56));
+    assert_eq!((about_at(48).mode, about_at(50).number, about_at(52).position), (256, 256, 256));
+}
+
+/// The fields of 54 bytes of which one is 1.
+fn about_at(at: usize) -> About {
+    let mut bytes = [0; 54];
+    bytes[at] = 1;
+    About::of(&bytes)
 }
 
 /// A program that prints, for lines of numbers, what the plain header makes of them.

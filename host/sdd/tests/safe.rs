@@ -41,6 +41,7 @@ fn every_refusal_has_its_number_and_a_sentence() {
         BadSizes,
         AnswerTooLong,
     ];
+    assert_eq!((sdd::numbers::refused::NO_ROOM, NoRoom.number()), (13, 13));
     for (number, refusal) in (1..).zip(all) {
         assert_eq!(refusal.number(), number);
         assert!(

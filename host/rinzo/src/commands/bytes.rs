@@ -6,6 +6,7 @@ use crate::say::failure::Failure;
 use crate::say::json::Json;
 use crate::say::out::Out;
 use crate::say::progress::Progress;
+use crate::say::shown;
 use crate::words::args::Args;
 use sdd::Span;
 use std::fs::{File, OpenOptions};
@@ -17,11 +18,11 @@ use std::path::Path;
 const PIECE: usize = 256 << 10;
 
 pub fn show(args: &Args, out: &Out) -> Result<(), Failure> {
-    write_out(args, out, |lent, slot| Ok(sdd::show(lent.bytes(), slot)?))
+    write_out(args, out, |lent, slot| lent.shown(slot))
 }
 
 pub fn read(args: &Args, out: &Out) -> Result<(), Failure> {
-    write_out(args, out, |lent, slot| Ok(lent.scan_of(slot)??))
+    write_out(args, out, |lent, slot| lent.scan_of(slot)?.map_err(|why| lent.refused(why, Some(slot))))
 }
 
 /// Finds a part of the file by the window, and hands it on from the file in pieces: it may be as long as the file.
@@ -34,13 +35,19 @@ fn write_out(args: &Args, out: &Out, part: fn(&mut Lent, u64) -> Result<Span, Fa
     if to.is_none() && out.is_terminal() {
         return args.wrong("the bytes would go to the screen: give --out FILE, or send them to a file or a program");
     }
-    let mut lent = Lent::to_read(args.path(0))?;
+    let mut lent = Lent::to_read(args.path(0), out)?;
     let span = part(&mut lent, slot)?;
     let Some(to) = to else { return pieces(&lent.device, &span, out, |bytes| out.bytes(bytes)) };
     write_file(&lent.device, to, args.has("force"), &span, out)?;
     out.answer(
-        || format!("{} bytes written to {}", span.len(), to.display()),
-        || Json::Object(vec![("from", Json::number(span.start as u64)), ("to", Json::number(span.end as u64))]),
+        || format!("{} bytes written to {}", span.len(), shown::name(to)),
+        || {
+            Json::Object(vec![
+                ("written", Json::path(to)),
+                ("from", Json::number(span.start as u64)),
+                ("to", Json::number(span.end as u64)),
+            ])
+        },
     )
 }
 
@@ -72,14 +79,21 @@ fn write_file(device: &Device, to: &Path, force: bool, part: &Span, out: &Out) -
         Err(error) if error.kind() == ErrorKind::AlreadyExists => {
             return Err(Failure::Exists(format!(
                 "{} is there already: give another name, or --force to overwrite it",
-                to.display()
+                shown::name(to)
             )));
         }
         Err(error) => return Err(Failure::of(to, &error)),
     };
-    let failed = |error| Failure::Io(format!("{}: {error}", to.display()));
-    pieces(device, part, out, |bytes| made.write_all(bytes).map_err(failed))?;
-    made.sync_all().map_err(failed)
+    let failed = |error| {
+        Failure::Io(format!("{}: it could not be written, and nothing of it is left: {error}", shown::name(to)))
+    };
+    let written = pieces(device, part, out, |bytes| made.write_all(bytes).map_err(failed));
+    let written = written.and_then(|()| made.sync_all().map_err(failed));
+    if written.is_err() && made.metadata().is_ok_and(|about| about.is_file()) {
+        // half a scan is no scan
+        let _ = std::fs::remove_file(to);
+    }
+    written
 }
 
 fn overwrite(device: &Device, to: &Path) -> Result<File, Failure> {
@@ -87,8 +101,10 @@ fn overwrite(device: &Device, to: &Path) -> Result<File, Failure> {
     let file = OpenOptions::new().write(true).open(to).map_err(failed)?;
     let (one, two) = (file.metadata().map_err(failed)?, device.file().metadata().map_err(failed)?);
     if (one.dev(), one.ino()) == (two.dev(), two.ino()) {
-        return Err(Failure::Exists(format!("{} is the SDD file itself: give another name", to.display())));
+        return Err(Failure::Exists(format!("{} is the SDD file itself: give another name", shown::name(to))));
     }
-    file.set_len(0).map_err(failed)?;
+    if file.metadata().is_ok_and(|about| about.is_file()) {
+        file.set_len(0).map_err(failed)?;
+    }
     Ok(file)
 }

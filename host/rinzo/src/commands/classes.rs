@@ -9,12 +9,12 @@ use sdd::Span;
 
 pub fn run(args: &Args, out: &Out) -> Result<(), Failure> {
     let slot = args.slot(1)?;
-    let mut lent = Lent::to_read(args.path(0))?;
-    let span = lent.scan_of(slot)??;
+    let mut lent = Lent::to_read(args.path(0), out)?;
+    let span = lent.scan_of(slot)?.map_err(|why| lent.refused(why, Some(slot)))?;
     lent.look_into(span.clone())?;
     let scan = &lent.bytes()[span];
-    let classes = sdd::classes(scan)?;
-    let data = sdd::data(scan)?;
+    let refused = |why| lent.refused(why, Some(slot));
+    let (classes, data) = (sdd::classes(scan).map_err(refused)?, sdd::data(scan).map_err(refused)?);
     out.answer(|| text(&classes, &data), || json(&classes, &data))
 }
 

@@ -1,11 +1,14 @@
 //! `rinzo demo`: a whole wash job on a fresh file.
 
 use super::blank::{Wanted, blank};
-use super::change::save_scan;
+use super::change::{Given, keep_in, save_to};
 use super::list::list;
+use crate::file::sector;
 use crate::say::failure::Failure;
 use crate::say::out::Out;
+use crate::say::shown;
 use crate::words::args::Args;
+use sdd::About;
 use std::path::{Path, PathBuf};
 
 /// A file that is removed at the end, unless it was asked for.
@@ -33,12 +36,18 @@ pub fn run(args: &Args, out: &Out) -> Result<(), Failure> {
 }
 
 fn wash_job(path: &Path, out: &Out) -> Result<(), Failure> {
-    heading(out, &format!("a blank file, {}", path.display()));
-    blank(path, &Wanted { n: 3, l: 512, m: 64, room: 64, force: false }, out)?;
+    if std::fs::metadata(path).is_ok_and(|about| about.len() > 0) {
+        let name = shown::name(path);
+        return Err(Failure::Exists(format!(
+            "{name} is there already, and demo works on a new file: give another name"
+        )));
+    }
+    heading(out, &format!("a blank file, {}", shown::name(path)));
+    blank(path, &Wanted { n: 3, l: 512, m: 64, room: 64, force: false, sector: sector::of(path) }, out)?;
     heading(out, "the before scan, kept in the lowest empty slot");
-    save_scan(path, None, &wave(400), &entry(b"BOOM 7 BEFORE   ", 1.0), out)?;
+    keep_in(path, &given(400, b"BOOM 7 BEFORE   ", 1.0), false, out)?;
     heading(out, "the after scan, saved to slot 2");
-    save_scan(path, Some(2), &wave(300), &entry(b"BOOM 7 AFTER    ", 2.0), out)?;
+    save_to(path, 2, &given(300, b"BOOM 7 AFTER    ", 2.0), false, out)?;
     heading(out, "the list: slot, first and last record");
     list(path, true, out)
 }
@@ -59,7 +68,8 @@ fn wave(readings: usize) -> Vec<u8> {
     scan
 }
 
-/// A continuum scan's entry: source, scan number and mode.
-fn entry(source: &[u8; 16], number: f32) -> sdd::About {
-    sdd::About { source: *source, scan: number.into(), mode: 256, ..sdd::About::default() }
+/// A continuum scan of so many readings, with its source and number.
+fn given(readings: usize, source: &[u8; 16], number: f32) -> Given<'static> {
+    let about = About { source: *source, scan: number.into(), mode: 256, ..About::default() };
+    Given { path: Path::new("the demonstration's scan"), bytes: wave(readings), about }
 }

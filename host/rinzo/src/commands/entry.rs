@@ -1,18 +1,17 @@
 //! `rinzo entry`: the index entry of a slot.
 
-use super::about::source_text;
 use super::list::kind_name;
 use crate::file::lent::Lent;
 use crate::say::failure::Failure;
 use crate::say::json::Json;
 use crate::say::out::Out;
+use crate::say::shown;
 use crate::words::args::Args;
 use sdd::{Entry, Kind, Real4, Real8};
 
 pub fn run(args: &Args, out: &Out) -> Result<(), Failure> {
     let slot = args.slot(1)?;
-    let lent = Lent::to_read(args.path(0))?;
-    let entry = sdd::entry(lent.bytes(), slot)?;
+    let entry = Lent::to_read(args.path(0), out)?.entry(slot)?;
     out.answer(|| text(slot, &entry), || json(slot, &entry))
 }
 
@@ -56,7 +55,7 @@ fn text(slot: u64, e: &Entry) -> String {
         ("slot", slot.to_string()),
         ("records", format!("{} to {}", e.first, e.last)),
         ("kind", format!("{} (mode {})", kind_name(&e.kind), e.mode)),
-        ("source", source_text(&e.source)),
+        ("source", shown::source(&e.source)),
         ("scan-number", text4(e.scan)),
         ("horizontal", text4(e.horizontal)),
         ("vertical", text4(e.vertical)),
@@ -71,14 +70,15 @@ fn text(slot: u64, e: &Entry) -> String {
 }
 
 fn json(slot: u64, e: &Entry) -> Json {
-    let [single, double] = measured(e);
+    let ([single, double], [source, source_bytes]) = (measured(e), Json::source(&e.source));
     Json::Object(vec![
         ("slot", Json::number(slot)),
         ("first", Json::number(e.first)),
         ("last", Json::number(e.last)),
         ("kind", Json::text(kind_name(&e.kind))),
         ("mode", Json::number(e.mode)),
-        ("source", Json::text(source_text(&e.source))),
+        source,
+        source_bytes,
         ("scan-number", json4(e.scan)),
         ("horizontal", json4(e.horizontal)),
         ("vertical", json4(e.vertical)),

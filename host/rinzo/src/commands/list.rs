@@ -1,24 +1,24 @@
 //! `rinzo list`: the scans of a file, in the lister's form.
 
-use super::about::source_text;
+use super::each::each;
 use crate::file::lent::Lent;
 use crate::say::failure::Failure;
 use crate::say::json::Json;
 use crate::say::out::Out;
 use crate::say::progress::Progress;
+use crate::say::shown;
 use crate::words::args::Args;
 use sdd::{Entry, Kind, Listed, Sizes};
 use std::path::Path;
 
 pub fn run(args: &Args, out: &Out) -> Result<(), Failure> {
-    list(args.path(0), args.has("long"), out)
+    each(args, out, |path| list(path, args.has("long"), out))
 }
 
 /// Lists a file.
 pub fn list(path: &Path, long: bool, out: &Out) -> Result<(), Failure> {
-    let mut lent = Lent::to_read(path)?;
-    let sizes = sdd::open(lent.bytes())?;
-    let scans = sdd::list(lent.bytes())?;
+    let mut lent = Lent::to_read(path, out)?;
+    let (sizes, scans) = (lent.sizes()?, lent.scans()?);
     let mut progress = Progress::of_things(out, "looking into scan", if long { scans.len() } else { 0 });
     let mut rows = Vec::new();
     for scan in scans {
@@ -27,14 +27,14 @@ pub fn list(path: &Path, long: bool, out: &Out) -> Result<(), Failure> {
         progress.went_on(1);
     }
     drop(progress);
-    out.answer(|| text(&sizes, &rows), || json(&sizes, &rows))
+    out.answer(|| text(&sizes, &rows), || json(path, &sizes, &rows))
 }
 
 /// A scan, and for a long list its entry and its bytes, where it can be read.
 type Row = (Listed, Option<(Entry, Option<usize>)>);
 
 fn look_into(lent: &mut Lent, scan: &Listed, l: u64) -> Result<(Entry, Option<usize>), Failure> {
-    let entry = sdd::entry(lent.bytes(), u64::from(scan.slot))?;
+    let entry = lent.entry(u64::from(scan.slot))?;
     let bytes = lent.glance(scan, l)?.ok().map(|span| span.len());
     Ok((entry, bytes))
 }
@@ -54,13 +54,13 @@ fn text(sizes: &Sizes, rows: &[Row]) -> String {
         text += &format!("\n{} {} {}", scan.slot, scan.first, scan.last);
         if let Some((entry, bytes)) = seen {
             let bytes = bytes.map_or("unreadable".to_string(), |bytes| format!("{bytes} bytes"));
-            text += &format!("  {bytes}  {}  {}", kind_name(&entry.kind), source_text(&entry.source));
+            text += &format!("  {bytes}  {}  {}", kind_name(&entry.kind), shown::source(&entry.source));
         }
     }
     text
 }
 
-fn json(sizes: &Sizes, rows: &[Row]) -> Json {
+fn json(path: &Path, sizes: &Sizes, rows: &[Row]) -> Json {
     let scans = rows.iter().map(|(scan, seen)| {
         let mut fields = vec![
             ("slot", Json::number(scan.slot)),
@@ -70,11 +70,12 @@ fn json(sizes: &Sizes, rows: &[Row]) -> Json {
         if let Some((entry, bytes)) = seen {
             fields.push(("bytes", bytes.map_or(Json::Plain("null".to_string()), |bytes| Json::number(bytes as u64))));
             fields.push(("kind", Json::text(kind_name(&entry.kind))));
-            fields.push(("source", Json::text(source_text(&entry.source))));
+            fields.extend(Json::source(&entry.source));
         }
         Json::Object(fields)
     });
     Json::Object(vec![
+        ("file", Json::path(path)),
         ("slots", Json::number(sizes.capacity)),
         ("used", Json::number(sizes.u)),
         ("scans", Json::List(scans.collect())),

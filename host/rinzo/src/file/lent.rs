@@ -6,7 +6,9 @@ use super::window::Window;
 use crate::say::failure::Failure;
 use crate::say::out::Out;
 use crate::say::progress::Progress;
-use sdd::{Listed, Refusal, Span};
+use crate::say::refused::Refused;
+use crate::say::shown;
+use sdd::{Entry, Listed, Refusal, Sizes, Span};
 use std::io;
 use std::path::Path;
 
@@ -18,8 +20,8 @@ pub struct Lent {
 
 impl Lent {
     /// A file that is only looked at, with records 1 to N read in.
-    pub fn to_read(path: &Path) -> Result<Lent, Failure> {
-        Lent::on(open::to_read(path)?)
+    pub fn to_read(path: &Path, out: &Out) -> Result<Lent, Failure> {
+        Lent::on(open::to_read(path, out)?)
     }
 
     /// A file for a job, which has it alone as long as this lives.
@@ -43,10 +45,37 @@ impl Lent {
         self.window.fill(part, &mut |at, into| device.read(at, into)).map_err(|error| cannot_be_read(device, &error))
     }
 
+    /// The file's sizes: it is judged.
+    pub fn sizes(&self) -> Result<Sizes, Failure> {
+        sdd::open(self.bytes()).map_err(|why| self.refused(why, None))
+    }
+
+    /// Its scans, in slot order.
+    pub fn scans(&self) -> Result<Vec<Listed>, Failure> {
+        sdd::list(self.bytes()).map_err(|why| self.refused(why, None))
+    }
+
+    /// The index entry of a slot.
+    pub fn entry(&self, slot: u64) -> Result<Entry, Failure> {
+        sdd::entry(self.bytes(), slot).map_err(|why| self.refused(why, Some(slot)))
+    }
+
+    /// Where a slot's records are.
+    pub fn shown(&self, slot: u64) -> Result<Span, Failure> {
+        sdd::show(self.bytes(), slot).map_err(|why| self.refused(why, Some(slot)))
+    }
+
+    /// A refusal of this file, or of this slot of it, with what there is to say of it.
+    pub fn refused(&self, why: Refusal, slot: Option<u64>) -> Failure {
+        let slots = sdd::open(self.bytes()).ok().map(|sizes| sizes.capacity);
+        let is_zeros = why == Refusal::OldForm && is_zeros(&self.device);
+        Refused::of(self.device.path(), why).at(slot).among(slots).of_zeros(is_zeros).into()
+    }
+
     /// Where a slot's scan is, which may be refused for the scan's own sake. Its first record is read in, which is all
     /// that the library looks at to judge it.
     pub fn scan_of(&mut self, slot: u64) -> Result<Result<Span, Refusal>, Failure> {
-        let start = sdd::show(self.bytes(), slot)?.start;
+        let start = self.shown(slot)?.start;
         self.scan_at(slot, start)
     }
 
@@ -62,36 +91,22 @@ impl Lent {
         self.look_into(start..start + self.window.record_len())?;
         Ok(sdd::read(self.bytes(), slot))
     }
-
-    /// A new window on a file that has another length than it had; whether it has.
-    pub fn renew(&mut self) -> Result<bool, Failure> {
-        let failed = |error| cannot_be_read(&self.device, &error);
-        if self.device.len().map_err(failed)? == self.window.len() {
-            return Ok(false);
-        }
-        self.window = window(&self.device).map_err(failed)?;
-        Ok(true)
-    }
 }
 
 fn window(device: &Device) -> io::Result<Window> {
     Window::new(device.len()?, &mut |at, into| device.read(at, into))
 }
 
-/// A new window, filled past the page cache: records 1 to N, and a part more that the head's bytes name.
-pub fn read_back(device: &Device, more: impl FnOnce(&Window) -> Span, out: &Out) -> Result<(Window, Way), Failure> {
+/// A new window, filled past the page cache: records 1 to N.
+pub fn read_back(device: &Device, out: &Out) -> Result<(Window, Way), Failure> {
     let (mut way, mut progress) = (Way::Direct, Progress::of_bytes(out, "reading back"));
     let mut read = |at: u64, into: &mut [u8]| {
         way = way.max(device.read_back(at, into)?);
         progress.went_on(into.len() as u64);
         Ok(())
     };
-    let read_all = || -> io::Result<Window> {
-        let mut window = Window::new(device.len()?, &mut read)?;
-        window.fill(more(&window), &mut read)?;
-        Ok(window)
-    };
-    let window = read_all().map_err(|error| cannot_be_read(device, &error))?;
+    let len = device.len().map_err(|error| cannot_be_read(device, &error))?;
+    let window = Window::new(len, &mut read).map_err(|error| cannot_be_read(device, &error))?;
     Ok((window, way))
 }
 
@@ -101,5 +116,15 @@ pub fn cannot_be_read(device: &Device, error: &io::Error) -> Failure {
         io::ErrorKind::UnexpectedEof => "it became shorter while it was read, something else works on it".to_string(),
         _ => error.to_string(),
     };
-    Failure::Io(format!("{}: it cannot be read: {why}", device.path().display()))
+    Failure::Io(format!("{}: it cannot be read: {why}", shown::name(device.path())))
+}
+
+/// Whether the file has bytes and all of them are zeros.
+fn is_zeros(device: &Device) -> bool {
+    let mut piece = vec![0; 64 << 10];
+    let Ok(len @ 1..) = device.len() else { return false };
+    (0..len).step_by(piece.len()).all(|at| {
+        let part = &mut piece[..(len - at).min(64 << 10) as usize];
+        device.read(at, part).is_ok() && part.iter().all(|byte| *byte == 0)
+    })
 }

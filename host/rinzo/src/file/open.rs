@@ -2,20 +2,31 @@
 
 use super::device::{Device, uninterrupted};
 use crate::say::failure::Failure;
+use crate::say::out::Out;
+use crate::say::shown;
 use std::fs::{File, OpenOptions, TryLockError};
 use std::io::{self, Read};
 use std::os::unix::fs::OpenOptionsExt;
 use std::path::Path;
 use std::time::{Duration, Instant};
 
-/// How long a reader waits for a job to end.
+/// How long a reader waits for a job to end, and how long before it says so.
 const PATIENCE: Duration = Duration::from_secs(10);
+const SHORT: Duration = Duration::from_millis(300);
 
 /// Opens a file to look at it, once no job works on it.
-pub fn to_read(path: &Path) -> Result<Device, Failure> {
+pub fn to_read(path: &Path, out: &Out) -> Result<Device, Failure> {
     let device = opened(path, OpenOptions::new().read(true))?;
-    let began = Instant::now();
+    let (began, mut told) = (Instant::now(), false);
     loop {
+        if began.elapsed() > SHORT && !told {
+            let most = PATIENCE.as_secs();
+            out.remark(&format!(
+                "another program works on {}: waiting up to {most} seconds for its end",
+                shown::name(path)
+            ));
+            told = true;
+        }
         match device.file().try_lock_shared() {
             Ok(()) => return Ok(device),
             // a file system without locks: there is nothing to wait for
@@ -33,9 +44,15 @@ pub fn to_change(path: &Path) -> Result<Device, Failure> {
     alone(opened(path, OpenOptions::new().read(true).write(true))?)
 }
 
-/// Opens or makes a file, and has it alone. What is in it stays.
-pub fn to_make(path: &Path) -> Result<Device, Failure> {
-    alone(opened(path, OpenOptions::new().read(true).write(true).create(true).truncate(false))?)
+/// Opens or makes a file, and has it alone; whether it was made. What is in it stays.
+pub fn to_make(path: &Path) -> Result<(Device, bool), Failure> {
+    let mut options = OpenOptions::new();
+    options.read(true).write(true);
+    match opened(path, options.clone().create_new(true)) {
+        Ok(device) => Ok((alone(device)?, true)),
+        // it is there, or cannot be made: to open it says which
+        Err(_) => Ok((alone(opened(path, options.create(true).truncate(false))?)?, false)),
+    }
 }
 
 /// Opened without waiting, so that a pipe is told from a file and does not hold us up.
@@ -43,7 +60,7 @@ fn opened(path: &Path, options: &mut OpenOptions) -> Result<Device, Failure> {
     let file = options.custom_flags(libc::O_NONBLOCK).open(path).map_err(|error| Failure::of(path, &error))?;
     let about = file.metadata().map_err(|error| Failure::of(path, &error))?;
     if !about.is_file() {
-        return Err(Failure::NoInput(format!("{} is no plain file: give the path of an SDD file", path.display())));
+        return Err(Failure::NoInput(format!("{} is no plain file: give the path of an SDD file", shown::name(path))));
     }
     Ok(Device::on(file, path))
 }
@@ -54,13 +71,13 @@ fn alone(device: Device) -> Result<Device, Failure> {
         Err(TryLockError::WouldBlock) => Err(busy(device.path())),
         Err(TryLockError::Error(error)) => Err(Failure::Io(format!(
             "{} cannot be locked, so that nothing is written: {error}",
-            device.path().display()
+            shown::name(device.path())
         ))),
     }
 }
 
 fn busy(path: &Path) -> Failure {
-    Failure::Busy(format!("another program works on {}: try again when it has finished", path.display()))
+    Failure::Busy(format!("another program works on {}: try again when it has finished", shown::name(path)))
 }
 
 /// Makes a new or changed name in a folder durable.
@@ -69,7 +86,7 @@ pub fn sync_folder_of(path: &Path) -> Result<(), Failure> {
         Some(folder) if !folder.as_os_str().is_empty() => folder,
         _ => Path::new("."),
     };
-    let failed = |error| Failure::Io(format!("{}: the folder cannot be made durable: {error}", folder.display()));
+    let failed = |error| Failure::Io(format!("{}: the folder cannot be made durable: {error}", shown::name(folder)));
     let opened = File::open(folder).map_err(failed)?;
     uninterrupted(|| opened.sync_all()).map_err(failed)
 }

@@ -6,6 +6,7 @@ use std::fs::File;
 use std::io;
 use std::ops::Range;
 use std::os::fd::AsRawFd;
+use std::sync::atomic::{AtomicBool, Ordering::Relaxed};
 
 /// A write past the limit on file sizes is to come back as an error, not to end the program.
 pub fn ignore_file_size_signal() {
@@ -27,6 +28,46 @@ pub fn on_first_interrupt(handler: extern "C" fn(c_int)) {
         action.sa_flags = libc::SA_RESETHAND | libc::SA_RESTART;
         libc::sigaction(libc::SIGINT, &action, std::ptr::null_mut());
     }
+}
+
+/// What signals a thread takes.
+pub struct Signals(libc::sigset_t);
+
+/// From now on this thread takes no Ctrl-C, and neither do those that it starts; answers what it took before. A signal
+/// goes to any thread that takes it, and one that came before a record is to be seen before that record.
+pub fn leave_interrupts() -> Signals {
+    // SAFETY: structs of numbers, which the calls fill before they are read.
+    unsafe {
+        let (mut interrupt, mut before): (libc::sigset_t, libc::sigset_t) = (std::mem::zeroed(), std::mem::zeroed());
+        libc::sigemptyset(&mut interrupt);
+        libc::sigaddset(&mut interrupt, libc::SIGINT);
+        libc::pthread_sigmask(libc::SIG_BLOCK, &interrupt, &mut before);
+        Signals(before)
+    }
+}
+
+/// From now on this thread takes these.
+pub fn take(signals: &Signals) {
+    // SAFETY: a set that `leave_interrupts` was given.
+    unsafe { libc::pthread_sigmask(libc::SIG_SETMASK, &signals.0, std::ptr::null_mut()) };
+}
+
+/// Whether standard output was closed when the program was started.
+static OUTPUT_WAS_CLOSED: AtomicBool = AtomicBool::new(false);
+
+/// Rust's own start opens /dev/null in the place of a closed output. This is called before it.
+#[used]
+#[unsafe(link_section = ".init_array")]
+static LOOK_AT_OUTPUT: extern "C" fn() = look_at_output;
+
+extern "C" fn look_at_output() {
+    // SAFETY: fcntl only answers.
+    OUTPUT_WAS_CLOSED.store(unsafe { libc::fcntl(libc::STDOUT_FILENO, libc::F_GETFD) } == -1, Relaxed);
+}
+
+/// Whether there was no standard output when the program began.
+pub fn output_was_closed() -> bool {
+    OUTPUT_WAS_CLOSED.load(Relaxed)
 }
 
 /// Asks the system to forget what it holds of a part of a file in memory.

@@ -138,6 +138,7 @@ impl Window {
 #[cfg(test)]
 mod tests {
     use super::Window;
+    use sdd::About;
 
     /// A blank file, and a reader of it that counts what it reads.
     fn file(n: u64, room: usize) -> Vec<u8> {
@@ -199,7 +200,7 @@ mod tests {
         file[4 * 512..].fill(0xa5);
         for slot in 1..=5 {
             let scan = sample::scan(300 + 400 * slot, slot as u8);
-            let mut job = sdd::save(&file, slot as u64, &scan, &[7; 54]).unwrap();
+            let mut job = sdd::save(&file, slot as u64, &scan, &About::of(&[7; 54])).unwrap();
             while let sdd::Step::Wrote { .. } = sdd::step(&mut file, &scan, &mut job).unwrap() {}
         }
         file
@@ -210,7 +211,11 @@ mod tests {
         let scan = sample::scan(1_000, 9);
         (
             (sdd::open(file), sdd::list(file), sdd::entry(file, slot), sdd::show(file, slot)),
-            (sdd::save(file, slot, &scan, &[1; 54]), sdd::keep(file, &scan, &[1; 54]), sdd::clear(file, slot)),
+            (
+                sdd::save(file, slot, &scan, &About::of(&[1; 54])),
+                sdd::keep(file, &scan, &About::of(&[1; 54])),
+                sdd::clear(file, slot),
+            ),
         )
     }
 

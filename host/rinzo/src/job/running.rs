@@ -1,13 +1,18 @@
-//! A job under way: each step's record written durably, then the confirmation on what comes back from the device.
+//! A job under way: run by the driver on the file, told record by record, and confirmed on what comes back.
 
 use super::drill::Drill;
 use super::interrupt;
-use crate::file::lent::{Lent, read_back};
-use crate::file::window::Window;
+use crate::file::device::{Device, Way};
+use crate::file::lent::{Lent, cannot_be_read, read_back};
 use crate::say::failure::Failure;
 use crate::say::json::Json;
 use crate::say::out::Out;
-use sdd::{Entry, Job, Step};
+use crate::say::progress::Progress;
+use crate::say::shown;
+use sdd::drive::{self, Confirmed, Doing, Dropped, Wrote};
+use sdd::{Entry, Job};
+use std::io;
+use std::ops::ControlFlow;
 
 /// A job and its file, which is locked as long as this lives.
 pub struct Running<'a> {
@@ -15,115 +20,142 @@ pub struct Running<'a> {
     scan: &'a [u8],
     job: Job,
     out: &'a Out,
-    /// L.
-    l: usize,
     /// The file's length when the job began.
     len: u64,
     /// What the slot had before.
     before: Option<Entry>,
 }
 
+/// How much is read back at a time: a multiple of every block.
+const PIECE: usize = 256 << 10;
+
+/// The file as the driver sees it: it also notes how bytes were read back, and tells how far that has come.
+struct Driven<'a> {
+    device: &'a Device,
+    way: Way,
+    progress: Progress,
+}
+
+impl sdd::Device for Driven<'_> {
+    type Error = io::Error;
+
+    fn length(&mut self) -> io::Result<u64> {
+        self.device.len()
+    }
+
+    fn read(&mut self, at: u64, into: &mut [u8]) -> io::Result<()> {
+        self.device.read(at, into)
+    }
+
+    fn write(&mut self, at: u64, record: &[u8]) -> io::Result<()> {
+        self.device.write(at, record)
+    }
+
+    fn flush(&mut self) -> io::Result<()> {
+        self.device.flush()
+    }
+
+    fn read_back(&mut self, at: u64, into: &mut [u8]) -> io::Result<()> {
+        for (i, piece) in into.chunks_mut(PIECE).enumerate() {
+            self.way = self.way.max(self.device.read_back(at + (i * PIECE) as u64, piece)?);
+            self.progress.went_on(piece.len() as u64);
+        }
+        Ok(())
+    }
+}
+
 impl<'a> Running<'a> {
     /// A job that was begun on this file.
-    pub fn new(lent: Lent, scan: &'a [u8], job: Job, out: &'a Out) -> Result<Running<'a>, Failure> {
-        let l = sdd::open(lent.bytes())?.l as usize;
+    pub fn new(lent: Lent, scan: &'a [u8], job: Job, out: &'a Out) -> Running<'a> {
         let before = sdd::entry(lent.bytes(), job.slot()).ok();
         let len = lent.window.len();
-        Ok(Running { lent, scan, job, out, l, len, before })
+        Running { lent, scan, job, out, len, before }
     }
 
     /// Runs it to its end. Where it does not come there, it is dropped, and the failure says what the file shows.
     pub fn run(mut self) -> Result<(), Failure> {
         interrupt::watch();
-        let ended = self.write_all().and_then(|()| self.confirm());
-        ended.map_err(|why| Failure::Dropped(Box::new(why), self.what_it_shows()))
+        match self.drive() {
+            Ok(confirmed) => self.tell(confirmed),
+            Err(why) => Err(Failure::Dropped(Box::new(why), self.what_it_shows())),
+        }
     }
 
-    /// Steps until the copy in memory is confirmed, and writes each record that a step names.
-    fn write_all(&mut self) -> Result<(), Failure> {
+    /// Hands the job to the driver, which writes each record durably and confirms on what the device gives back.
+    fn drive(&mut self) -> Result<Confirmed, Failure> {
+        let (job, out) = (self.job, self.out);
+        let Lent { device, window } = &mut self.lent;
+        let memory = window.lend_for(&job).map_err(|error| no_memory(device, &error))?;
         let drill = Drill::from_environment();
         drill.reached(0);
-        while let Step::Wrote { record, written } = self.step()? {
-            self.write(record, written)?;
-            drill.reached(written);
-        }
-        Ok(())
-    }
-
-    /// The next step, unless there was a Ctrl-C. Where something else has changed the file's length, the library is
-    /// lent what there is now, and refuses.
-    fn step(&mut self) -> Result<Step, Failure> {
         if interrupt::noted() {
-            return Err(Failure::Interrupted);
+            return Err(Failure::Interrupted(device.path().to_path_buf()));
         }
-        self.lent.renew()?;
-        let file = lend(&mut self.lent.window, &self.job)?;
-        Ok(sdd::step(file, self.scan, &mut self.job)?)
-    }
-
-    /// Writes the record that a step named, durably.
-    fn write(&self, record: u64, written: u64) -> Result<(), Failure> {
-        let at = (record as usize - 1) * self.l;
-        let device = &self.lent.device;
-        let done = device.write(at as u64, &self.lent.bytes()[at..at + self.l]).and_then(|()| device.flush());
-        done.map_err(|error| {
-            Failure::Io(format!("{}: record {record} could not be written: {error}", device.path().display()))
-        })?;
-        let of = self.job.scan_len().div_ceil(self.l as u64) + 2;
-        self.out.progress(
-            || format!("record {record} written ({written} of {of})"),
-            || {
-                Json::Object(vec![
-                    ("event", Json::text("record")),
-                    ("record", Json::number(record)),
-                    ("written", Json::number(written)),
-                    ("of", Json::number(of)),
-                ])
-            },
-        );
-        Ok(())
-    }
-
-    /// A confirmed job stepped again is judged again: here on records 1 to N and the job's own as the device has them.
-    fn confirm(&mut self) -> Result<(), Failure> {
-        let job = self.job;
-        let (mut window, way) = read_back(&self.lent.device, |window| window.data_of(&job), self.out)?;
-        self.out.progress(
+        let progress = Progress::of_bytes(out, "reading back");
+        let mut driven = Driven { device, way: Way::Direct, progress };
+        let ended = drive::run(&mut driven, memory, self.scan, job, |wrote| {
+            told(out, wrote);
+            drill.reached(wrote.written);
+            if interrupt::noted() { ControlFlow::Break(()) } else { ControlFlow::Continue(()) }
+        });
+        let way = driven.way;
+        drop(driven);
+        let confirmed = ended.map_err(|dropped| self.failure(dropped))?;
+        out.progress(
             || way.sentence().to_string(),
             || Json::Object(vec![("event", Json::text("read-back")), ("way", Json::text(way.name()))]),
         );
-        let confirmed = sdd::step(lend(&mut window, &job)?, self.scan, &mut self.job)?;
-        self.tell(confirmed);
-        Ok(())
+        Ok(confirmed)
     }
 
-    /// The confirming step's answer, which alone says that the job is done.
-    fn tell(&self, confirmed: Step) {
-        let (event, mut fields) = match confirmed {
-            Step::Saved { .. } => {
-                let (first, k) = (self.job.first(), self.job.scan_len().div_ceil(self.l as u64));
-                ("saved", vec![("first", first), ("last", first + k - 1)])
+    /// Why the driver dropped the job.
+    fn failure(&self, dropped: Dropped<io::Error>) -> Failure {
+        let device = &self.lent.device;
+        match dropped {
+            Dropped::Refused(why) => self.lent.refused(why, Some(self.job.slot())),
+            Dropped::Failed(Doing::Writing(record), error) => {
+                let name = shown::name(device.path());
+                Failure::Io(format!("{name}: record {record} could not be written: {error}"))
             }
-            Step::Cleared { .. } => ("cleared", vec![]),
-            Step::Wrote { .. } => unreachable!("a confirmed job writes no more"),
+            Dropped::Failed(_, error) => cannot_be_read(device, &error),
+            Dropped::Stopped => Failure::Interrupted(device.path().to_path_buf()),
+        }
+    }
+
+    /// The confirmation, which alone says that the job is done. Where nobody reads, it is done all the same.
+    fn tell(&self, confirmed: Confirmed) -> Result<(), Failure> {
+        let (event, fields) = match confirmed {
+            Confirmed::Saved { slot, first, last } => ("saved", vec![("slot", slot), ("first", first), ("last", last)]),
+            Confirmed::Cleared { slot } => ("cleared", vec![("slot", slot)]),
         };
-        fields.insert(0, ("slot", self.job.slot()));
-        let text = || fields.iter().map(|(name, number)| format!("{name} {number}")).collect::<Vec<_>>().join(" ");
-        self.out.progress(
-            || format!("{event}: {}", text()),
+        let held = if event == "saved" { "replaced" } else { "held" };
+        let told = self.out.answer(
+            || {
+                let numbers: Vec<String> = fields.iter().map(|(name, number)| format!("{name} {number}")).collect();
+                let before = self.before.as_ref().map_or(String::new(), |entry| format!(", {held} {}", scan_in(entry)));
+                format!("{event}: {}{before}", numbers.join(" "))
+            },
             || {
                 let mut all = vec![("event", Json::text(event))];
                 all.extend(fields.iter().map(|(name, number)| (*name, Json::number(*number))));
+                all.extend(self.before.as_ref().map(|entry| (held, scan_json(entry))));
                 Json::Object(all)
             },
         );
+        match told {
+            Err(Failure::Io(why)) => {
+                let (name, slot) = (shown::name(self.lent.device.path()), self.job.slot());
+                Err(Failure::Io(format!("{name}: slot {slot} is {event} and confirmed, but {why}")))
+            }
+            _ => Ok(()),
+        }
     }
 
-    /// What the file shows after a job that was dropped. No step writes into the records of a listed scan, so a slot
-    /// that has the entry it had shows what it did.
+    /// What the file shows after a job that was dropped, and what to do. No step writes into the records of a listed
+    /// scan, so a slot that has the entry it had shows what it did.
     fn what_it_shows(&self) -> String {
         let slot = self.job.slot();
-        let Ok((window, _)) = read_back(&self.lent.device, |_| 0..0, self.out) else {
+        let Ok((window, _)) = read_back(&self.lent.device, self.out) else {
             return "the file cannot be read now".to_string();
         };
         let length = match window.len() {
@@ -136,14 +168,47 @@ impl<'a> Running<'a> {
         let now = sdd::entry(window.bytes(), slot).ok();
         length
             + &match (now == self.before, now) {
-                (true, Some(_)) => format!("slot {slot} shows the scan that it had before"),
-                (true, None) => format!("slot {slot} is empty as before"),
-                (false, Some(_)) => format!("slot {slot} shows the new scan, which is not confirmed"),
-                (false, None) => format!("slot {slot} is empty now, which is not confirmed"),
+                (true, Some(_)) => format!("slot {slot} shows the scan that it had before: do it again"),
+                (true, None) => format!("slot {slot} is empty as before: do it again"),
+                (false, Some(_)) => format!(
+                    "slot {slot} shows the new scan, which is not confirmed: list the file, and save the scan to slot {slot} once more; to keep it again would put it into two slots"
+                ),
+                (false, None) => format!("slot {slot} is empty now, which is not confirmed: list the file"),
             }
     }
 }
 
-fn lend<'a>(window: &'a mut Window, job: &Job) -> Result<&'a mut [u8], Failure> {
-    window.lend_for(job).map_err(|error| Failure::Io(format!("there is no memory for the job's records: {error}")))
+fn no_memory(device: &Device, error: &io::Error) -> Failure {
+    Failure::Io(format!("{}: there is no memory for the job's records: {error}", shown::name(device.path())))
+}
+
+/// A record that is on the device.
+fn told(out: &Out, Wrote { record, written, of }: Wrote) {
+    out.progress(
+        || format!("record {record} written ({written} of {of})"),
+        || {
+            let numbers = [("record", record), ("written", written), ("of", of)];
+            let mut fields = vec![("event", Json::text("record"))];
+            fields.extend(numbers.map(|(name, number)| (name, Json::number(number))));
+            Json::Object(fields)
+        },
+    );
+}
+
+/// The scan of an entry, in words: its source and its records.
+pub fn scan_in(entry: &Entry) -> String {
+    let source = match shown::source(&entry.source) {
+        source if source.is_empty() => "a scan without a source name".to_string(),
+        source => format!("the scan of {source}"),
+    };
+    match (entry.first, entry.last) {
+        (first, last) if first == last => format!("{source} in record {first}"),
+        (first, last) => format!("{source} in records {first} to {last}"),
+    }
+}
+
+fn scan_json(entry: &Entry) -> Json {
+    let mut fields = Vec::from(Json::source(&entry.source));
+    fields.extend([("first", Json::number(entry.first)), ("last", Json::number(entry.last))]);
+    Json::Object(fields)
 }

@@ -1,6 +1,8 @@
 //! JSON, to write.
 
+use super::shown;
 use std::fmt;
+use std::path::Path;
 
 /// A JSON value.
 pub enum Json {
@@ -23,6 +25,17 @@ impl Json {
     /// A string.
     pub fn text(text: impl Into<String>) -> Json {
         Json::Text(text.into())
+    }
+
+    /// A file's name, to the letter where it is text.
+    pub fn path(path: &Path) -> Json {
+        Json::Text(path.to_str().map_or_else(|| shown::name(path), str::to_string))
+    }
+
+    /// A source name for a line: as text, and its bytes in hexadecimal, of which nothing is lost.
+    pub fn source(source: &[u8; 16]) -> [(&'static str, Json); 2] {
+        let bytes = source.iter().map(|byte| format!("{byte:02x}")).collect();
+        [("source", Json::Text(shown::source(source))), ("source-bytes", Json::Text(bytes))]
     }
 
     /// A float by its bits and its value; JSON has no value for infinities and not-a-numbers.
@@ -61,7 +74,7 @@ fn write_text(f: &mut fmt::Formatter, text: &str) -> fmt::Result {
         match c {
             '"' => f.write_str("\\\"")?,
             '\\' => f.write_str("\\\\")?,
-            c if c < ' ' || c == '\u{7f}' => write!(f, "\\u{:04x}", c as u32)?,
+            c if shown::is_hidden(c) => write!(f, "\\u{:04x}", c as u32)?,
             c => write!(f, "{c}")?,
         }
     }
@@ -75,6 +88,7 @@ mod tests {
     #[test]
     fn strings_are_escaped() {
         assert_eq!(Json::text("a\"b\\c\n").to_string(), "\"a\\\"b\\\\c\\u000a\"");
+        assert_eq!(Json::text("\u{7f}\u{9b}\u{202e}\u{e9}").to_string(), "\"\\u007f\\u009b\\u202e\u{e9}\"");
     }
 
     #[test]

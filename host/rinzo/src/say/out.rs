@@ -2,12 +2,15 @@
 
 use super::failure::Failure;
 use super::json::Json;
-use std::io::{IsTerminal, Write, stderr, stdout};
+use super::shown;
+use std::io::{self, ErrorKind, IsTerminal, Write, stderr, stdin, stdout};
 
 /// Where and how to print.
 pub struct Out {
     /// JSON, not text.
     pub json: bool,
+    /// Standard output was closed when the program began.
+    pub is_closed: bool,
 }
 
 impl Out {
@@ -17,14 +20,17 @@ impl Out {
     }
 
     /// Lines to standard output.
-    pub fn lines(&self, lines: &str) -> Result<(), Failure> {
-        self.bytes(format!("{lines}\n").as_bytes())
+    pub fn lines(&self, text: &str) -> Result<(), Failure> {
+        self.bytes(format!("{}\n", shown::lines(text)).as_bytes())
     }
 
     /// Bytes to standard output.
     pub fn bytes(&self, bytes: &[u8]) -> Result<(), Failure> {
+        if self.is_closed {
+            return Err(Failure::Io("standard output is closed: open it, or send it to /dev/null".to_string()));
+        }
         let mut out = stdout().lock();
-        out.write_all(bytes).and_then(|()| out.flush()).map_err(|_| Failure::OutputClosed)
+        out.write_all(bytes).and_then(|()| out.flush()).map_err(|error| not_taken(&error))
     }
 
     /// A line of a job's progress. Nobody may be reading; the job goes on all the same.
@@ -34,19 +40,29 @@ impl Out {
 
     /// A failure: the sentence goes to standard error, its JSON form to standard output.
     pub fn failure(&self, failure: &Failure) {
-        if matches!(failure, Failure::OutputClosed) {
+        if matches!(failure, Failure::OutputClosed | Failure::Told(_)) {
             return;
         }
-        if self.json {
-            let _ = self.lines(&failure.json().to_string());
-        } else {
-            let _ = writeln!(stderr(), "rinzo: {failure}");
+        // where standard output takes nothing, standard error has to do
+        if !self.json || self.lines(&failure.json().to_string()).is_err() {
+            self.remark(&failure.to_string());
         }
     }
 
     /// A remark beside the answer.
     pub fn remark(&self, text: &str) {
-        let _ = writeln!(stderr(), "rinzo: {text}");
+        let _ = writeln!(stderr(), "rinzo: {}", shown::lines(text));
+    }
+
+    /// What a person answers to a question; none where standard input is no terminal.
+    pub fn ask(&self, question: &str) -> Option<bool> {
+        if !stdin().is_terminal() {
+            return None;
+        }
+        let _ = write!(stderr(), "{}", shown::lines(question));
+        let mut answer = String::new();
+        let _ = stdin().read_line(&mut answer);
+        Some(matches!(answer.trim(), "y" | "yes"))
     }
 
     /// Whether a person sees how far long work has come.
@@ -57,5 +73,13 @@ impl Out {
     /// Whether bytes on standard output would be shown to a person.
     pub fn is_terminal(&self) -> bool {
         stdout().is_terminal()
+    }
+}
+
+/// Nobody reading is no failure to speak of; anything else is.
+fn not_taken(error: &io::Error) -> Failure {
+    match error.kind() {
+        ErrorKind::BrokenPipe => Failure::OutputClosed,
+        _ => Failure::Io(format!("standard output could not be written, what it has is not whole: {error}")),
     }
 }

@@ -3,6 +3,7 @@
 use super::nearest::hint;
 use super::table::{Command, Opt};
 use crate::say::failure::Failure;
+use crate::say::shown;
 use lexopt::{Arg, Parser};
 use std::collections::HashMap;
 use std::ffi::{OsStr, OsString};
@@ -16,7 +17,7 @@ pub struct Args {
 }
 
 fn usage<T>(command: &Command, what: String) -> Result<T, Failure> {
-    let what = if what.ends_with('?') { what } else { what + "." };
+    let what = if what.ends_with(['?', '.']) { what } else { what + "." };
     Err(Failure::Usage(format!("{what} `rinzo {} --help` says more", command.name)))
 }
 
@@ -95,16 +96,23 @@ impl Args {
     fn count_words(&self) -> Result<(), Failure> {
         let wanted = self.command.words;
         let needed = wanted.iter().filter(|word| !word.starts_with('[')).count();
-        if let Some(extra) = self.words.get(wanted.len()) {
+        let repeats = wanted.last().is_some_and(|word| word.ends_with("..."));
+        if let Some(extra) = self.words.get(wanted.len())
+            && !repeats
+        {
             return usage(
                 self.command,
-                format!("{} is one word too many: rinzo {}", extra.display(), self.command.usage()),
+                format!("{} is one word too many: rinzo {}", shown::name(Path::new(extra)), self.command.usage()),
             );
         }
         if self.words.len() < needed {
             return usage(
                 self.command,
-                format!("{} is missing: rinzo {}", wanted[self.words.len()], self.command.usage()),
+                format!(
+                    "{} is missing: rinzo {}",
+                    wanted[self.words.len()].trim_end_matches('.'),
+                    self.command.usage()
+                ),
             );
         }
         Ok(())
@@ -120,13 +128,15 @@ impl Args {
         self.words.get(place).map(OsString::as_os_str)
     }
 
+    /// All words, as paths.
+    pub fn paths(&self) -> impl Iterator<Item = &Path> {
+        self.words.iter().map(Path::new)
+    }
+
     /// The word at this place, as a slot's number.
     pub fn slot(&self, place: usize) -> Result<u64, Failure> {
         let word = &self.words[place];
-        match word.to_str().and_then(|text| text.parse().ok()) {
-            Some(slot) => Ok(slot),
-            None => usage(self.command, format!("SLOT is a number, and {} is none", word.display())),
-        }
+        whole(word).or_else(|why| usage(self.command, format!("SLOT is a whole number from 1 on, and {why}")))
     }
 
     /// Whether a flag is given.
@@ -144,17 +154,34 @@ impl Args {
         let Some(value) = self.value(name) else { return Ok(None) };
         match value.to_str().and_then(read) {
             Some(value) => Ok(Some(value)),
-            None => usage(self.command, format!("--{name} wants {what}, and {} is none", value.display())),
+            None => {
+                let value = shown::name(Path::new(value));
+                usage(self.command, format!("--{name} wants {what}, and {value} is none"))
+            }
         }
     }
 
     /// The value of an option that is a count.
     pub fn count(&self, name: &str) -> Result<Option<u64>, Failure> {
-        self.read(name, "a whole number", |text| text.parse().ok())
+        let Some(value) = self.value(name) else { return Ok(None) };
+        let count =
+            whole(value).or_else(|why| usage(self.command, format!("--{name} wants a whole number, and {why}")));
+        count.map(Some)
     }
 
     /// A wrong use that only the command can see.
     pub fn wrong<T>(&self, what: &str) -> Result<T, Failure> {
         usage(self.command, what.to_string())
+    }
+}
+
+/// A whole number, or why a word is none.
+fn whole(word: &OsStr) -> Result<u64, String> {
+    let text = shown::name(Path::new(word));
+    let is_digits = |text: &str| !text.is_empty() && text.bytes().all(|digit| digit.is_ascii_digit());
+    match text.strip_prefix('-') {
+        Some(digits) if is_digits(digits) => Err(format!("{text} is below zero")),
+        _ if !is_digits(&text) => Err(format!("{text} is none")),
+        _ => text.parse().map_err(|_| format!("{text} is larger than any number of slots or records")),
     }
 }

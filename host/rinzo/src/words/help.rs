@@ -17,8 +17,8 @@ pub fn overview() -> String {
 /// The help of a command.
 pub fn of(command: &Command) -> String {
     let mut text = format!("usage: rinzo {} [options]\n\n{}\n", command.usage(), command.summary);
-    if !command.details.is_empty() {
-        text += &format!("{}\n", command.details);
+    for details in command.details {
+        text += &format!("{details}\n");
     }
     text += "\n";
     for option in command.all_options() {

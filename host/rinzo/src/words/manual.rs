@@ -37,7 +37,7 @@ After \\fB\\-\\-\\fR a word is no option.
 fn of(command: &Command) -> String {
     let words: String = command.words.iter().map(|word| format!(" \\fI{}\\fR", plain(word))).collect();
     let mut text = format!(".SS \\fB{}\\fR{words}\n{}.\n", command.name, plain(command.summary));
-    for line in command.details.lines() {
+    for line in command.details.iter().flat_map(|details| details.lines()) {
         text += &format!(".br\n{}\n", plain(line));
     }
     text + &options(command.own_options())

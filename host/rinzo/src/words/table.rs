@@ -33,6 +33,7 @@ pub enum Verb {
     Completion,
     Demo,
     Entry,
+    Install,
     Keep,
     List,
     Manual,
@@ -46,10 +47,11 @@ pub struct Command {
     pub name: &'static str,
     pub verb: Verb,
     pub group: Group,
-    /// The words after its name; one in brackets may be left out.
+    /// The words after its name; one in brackets may be left out, one with dots may come again.
     pub words: &'static [&'static str],
     pub summary: &'static str,
-    pub details: &'static str,
+    /// What more there is to say, in paragraphs.
+    pub details: &'static [&'static str],
     pub options: &'static [&'static [Opt]],
 }
 
@@ -64,11 +66,12 @@ const fn flag(name: &'static str, help: &'static str) -> Opt {
 /// Every command takes these.
 pub static COMMON: [Opt; 2] = [flag("json", "print JSON, one object a line"), flag("help", "print this")];
 
-const SIZES: [Opt; 5] = [
-    opt("n", "N", "records of bootstrap and index, 2 to 513 (default 129)"),
-    opt("l", "L", "bytes per record, 512 to 4,096 (default 512)"),
+const SIZES: [Opt; 6] = [
+    opt("n", "N", "records of bootstrap and index, 2 to 513 (default: enough for 1024 slots)"),
+    opt("l", "L", "bytes per record, 512 to 4096 (default: 4096 where that is the device's sector, else 512)"),
     opt("m", "M", "bytes per index entry, 64 to L, divides L (default 64)"),
-    opt("room", "R", "records in all, N included; the file's length (default 8192)"),
+    opt("room", "R", "records in all, N included; the file's length, at most 1000000 (default 8192)"),
+    opt("sector", "BYTES", "the device's sector (default: what the system says)"),
     flag("force", "blank a file that has bytes; its scans are lost"),
 ];
 
@@ -79,7 +82,7 @@ const BYTES: [Opt; 2] = [
 
 /// The entry's bytes 8 to 61, by field or as a whole.
 const ABOUT: [Opt; 14] = [
-    opt("source", "NAME", "source name, up to 16 bytes; blanks follow"),
+    opt("source", "NAME", "source name, up to 16 bytes, blanks follow; or all 16 as 0x and 32 digits"),
     opt("scan-number", "X", "scan number"),
     opt("horizontal", "X", "horizontal coordinate"),
     opt("vertical", "X", "vertical coordinate"),
@@ -97,30 +100,36 @@ const ABOUT: [Opt; 14] = [
 
 const ABOUT_DETAILS: &str =
     "SCAN is a file with the scan's bytes, or - for standard input. What is not given of the entry is zeros.
-X is a number, or the bits of one in hexadecimal, as 0x7fc00001.";
+X is a number, or the bits of one in hexadecimal with all their digits, as 0x7fc00001.";
+
+const SAVE_DETAILS: &str = "A save that did not say `saved` is done again, to the same slot.";
+
+const KEEP_DETAILS: &str =
+    "A keep that did not say `saved`: list the file first. Where the scan is listed, save it to that slot;
+to keep it again would put it into two slots, so a scan that the file has already needs --again.";
 
 /// The shells that `completion` knows: the word SHELL.
 pub const SHELLS: [&str; 3] = ["bash", "zsh", "fish"];
 
 /// All commands, in the order of the overview.
-pub static COMMANDS: [Command; 13] = [
+pub static COMMANDS: [Command; 14] = [
     Command {
         name: "list",
         verb: Verb::List,
         group: Group::Look,
-        words: &["FILE"],
+        words: &["FILE..."],
         summary: "list the scans: slot, first and last record",
-        details: "",
+        details: &[],
         options: &[&[flag("long", "add each scan's bytes, kind and source")]],
     },
     Command {
         name: "check",
         verb: Verb::Check,
         group: Group::Look,
-        words: &["FILE"],
-        summary: "judge a file and print its sizes",
-        details: "",
-        options: &[&[flag("scans", "read every scan too; refused 11 at the first that breaks a rule")]],
+        words: &["FILE..."],
+        summary: "judge a file: its index and sizes, and with --scans its scans",
+        details: &[],
+        options: &[&[flag("scans", "read every scan too, and list each that breaks a rule; status 11 where one does")]],
     },
     Command {
         name: "entry",
@@ -128,7 +137,7 @@ pub static COMMANDS: [Command; 13] = [
         group: Group::Look,
         words: &["FILE", "SLOT"],
         summary: "print the index entry of a slot",
-        details: "",
+        details: &[],
         options: &[],
     },
     Command {
@@ -137,7 +146,7 @@ pub static COMMANDS: [Command; 13] = [
         group: Group::Look,
         words: &["FILE", "SLOT"],
         summary: "list the classes and the data of a slot's scan: from and to byte, and length",
-        details: "",
+        details: &[],
         options: &[],
     },
     Command {
@@ -146,7 +155,7 @@ pub static COMMANDS: [Command; 13] = [
         group: Group::Look,
         words: &["FILE", "SLOT"],
         summary: "write out a slot's records, padding included",
-        details: "",
+        details: &[],
         options: &[&BYTES],
     },
     Command {
@@ -155,7 +164,7 @@ pub static COMMANDS: [Command; 13] = [
         group: Group::Look,
         words: &["FILE", "SLOT"],
         summary: "write out a slot's scan",
-        details: "",
+        details: &[],
         options: &[&BYTES],
     },
     Command {
@@ -163,9 +172,9 @@ pub static COMMANDS: [Command; 13] = [
         verb: Verb::Save,
         group: Group::Change,
         words: &["FILE", "SLOT", "SCAN"],
-        summary: "save a scan to a slot, replacing the one it has",
-        details: ABOUT_DETAILS,
-        options: &[&ABOUT],
+        summary: "save a scan to a slot; over another scan only with --replace",
+        details: &[SAVE_DETAILS, ABOUT_DETAILS],
+        options: &[&[flag("replace", "lose the scan that the slot has")], &ABOUT],
     },
     Command {
         name: "keep",
@@ -173,17 +182,17 @@ pub static COMMANDS: [Command; 13] = [
         group: Group::Change,
         words: &["FILE", "SCAN"],
         summary: "save a scan to the lowest empty slot",
-        details: ABOUT_DETAILS,
-        options: &[&ABOUT],
+        details: &[KEEP_DETAILS, ABOUT_DETAILS],
+        options: &[&[flag("again", "keep a scan that the file has already")], &ABOUT],
     },
     Command {
         name: "clear",
         verb: Verb::Clear,
         group: Group::Change,
         words: &["FILE", "SLOT"],
-        summary: "empty a slot",
-        details: "",
-        options: &[],
+        summary: "empty a slot, after a question",
+        details: &["Where standard input is no terminal nobody can be asked, and --yes has to be given."],
+        options: &[&[flag("yes", "clear the slot without a question")]],
     },
     Command {
         name: "blank",
@@ -191,7 +200,7 @@ pub static COMMANDS: [Command; 13] = [
         group: Group::Make,
         words: &["FILE"],
         summary: "make a file without scans",
-        details: "A file that has bytes is refused unless --force is given. It is never made shorter.",
+        details: &["A file that has bytes is refused unless --force is given. It is never made shorter."],
         options: &[&SIZES],
     },
     Command {
@@ -200,7 +209,18 @@ pub static COMMANDS: [Command; 13] = [
         group: Group::Make,
         words: &["[FILE]"],
         summary: "show a whole wash job: a blank file, a before scan, an after scan, the list",
-        details: "Without FILE it works on a file of its own, which it removes; FILE is made anew and stays.",
+        details: &["Without FILE it works on a file of its own, which it removes; FILE is made anew and stays."],
+        options: &[],
+    },
+    Command {
+        name: "install",
+        verb: Verb::Install,
+        group: Group::Make,
+        words: &["DIR"],
+        summary: "put the program, its man page and its completions into a folder",
+        details: &[
+            "They go to DIR/bin, DIR/share/man and where bash, zsh and fish look in DIR/share. The program works alone.",
+        ],
         options: &[],
     },
     Command {
@@ -209,8 +229,8 @@ pub static COMMANDS: [Command; 13] = [
         group: Group::Make,
         words: &["SHELL"],
         summary: "print what makes a shell complete these words: bash, zsh or fish",
-        details: "bash: put it into a file that your ~/.bashrc reads. zsh: into a file _rinzo in a folder of $fpath.
-fish: into ~/.config/fish/completions/rinzo.fish.",
+        details: &["bash: put it into a file that your ~/.bashrc reads. zsh: into a file _rinzo in a folder of $fpath.
+fish: into ~/.config/fish/completions/rinzo.fish."],
         options: &[],
     },
     Command {
@@ -219,7 +239,7 @@ fish: into ~/.config/fish/completions/rinzo.fish.",
         group: Group::Make,
         words: &[],
         summary: "print the man page",
-        details: "To read it: rinzo manual >rinzo.1; man ./rinzo.1",
+        details: &["To read it: rinzo manual >rinzo.1; man ./rinzo.1"],
         options: &[],
     },
 ];
@@ -231,7 +251,7 @@ pub fn find(name: &str) -> Option<&'static Command> {
 
 /// Whether a word or a value, by its name in the table, is a file's.
 pub fn is_file(name: &str) -> bool {
-    matches!(name.trim_matches(['[', ']']), "FILE" | "SCAN")
+    matches!(name.trim_matches(['[', ']', '.']), "FILE" | "SCAN" | "DIR")
 }
 
 /// What ends a run: the status, and when.
@@ -240,7 +260,7 @@ pub const STATUSES: [(&str, &str); 9] = [
     ("1 to 17", "refused with this number"),
     ("64", "bad usage"),
     ("66", "no such file"),
-    ("73", "a file would be overwritten"),
+    ("73", "something would be lost or doubled (the sentence names the option that does it)"),
     ("74", "reading or writing failed"),
     ("75", "another program works on the file"),
     ("77", "not permitted"),

@@ -78,3 +78,34 @@ pub fn held(folder: &Path, words: &[&str], written: u64) -> Child {
     }
     child
 }
+
+/// Builds a shim that stands before the system's calls (`LD_PRELOAD`), from lines of C.
+pub fn shim(folder: &Path, lines: &str) -> PathBuf {
+    let (source, made) = (folder.join("shim.c"), folder.join("shim.so"));
+    std::fs::write(&source, lines).unwrap();
+    let mut cc = Command::new("cc");
+    let built = cc.args(["-shared", "-fPIC", "-Wall", "-Werror", "-o"]).arg(&made).arg(&source).output().unwrap();
+    assert!(built.status.success(), "{}", said(&built));
+    made
+}
+
+/// A shim under which a call on a file fails in its turn, from 1 on, as it does on a disk that is full.
+pub fn failing(call: &str, turn: u32) -> String {
+    let (kind, words, rest) = match call {
+        "fdatasync" => ("int", "int fd", "fd"),
+        _ => ("ssize_t", "int fd, const void *at, size_t len, off_t from", "fd, at, len, from"),
+    };
+    format!(
+        "#define _GNU_SOURCE
+#include <dlfcn.h>
+#include <errno.h>
+#include <unistd.h>
+{kind} {call}({words}) {{
+  static int turn;
+  {kind} (*own)({words}) = ({kind} (*)({words}))dlsym(RTLD_NEXT, \"{call}\");
+  if (++turn == {turn}) {{ errno = ENOSPC; return -1; }}
+  return own({rest});
+}}
+"
+    )
+}

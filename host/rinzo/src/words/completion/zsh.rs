@@ -4,7 +4,12 @@ use crate::words::table::{COMMANDS, Opt, SHELLS, is_file};
 
 /// A word as `_arguments` wants it: what it is called, and how it is completed.
 fn word(name: &str) -> String {
-    let (mark, bare) = if name.starts_with('[') { ("::", name.trim_matches(['[', ']'])) } else { (":", name) };
+    let bare = name.trim_matches(['[', ']', '.']);
+    let mark = match name {
+        _ if name.starts_with('[') => "::",
+        _ if name.ends_with("...") => "*:",
+        _ => ":",
+    };
     match bare {
         _ if is_file(name) => format!("'{mark}{bare}:_files'"),
         "SHELL" => format!("'{mark}{bare}:({})'", SHELLS.join(" ")),

@@ -1,0 +1,84 @@
+//! A refusal of the library, with what it was about.
+
+use super::json::Json;
+use super::shown;
+use sdd::Refusal;
+use std::fmt;
+use std::path::{Path, PathBuf};
+
+/// Why the library refused, and of what.
+#[derive(Debug)]
+pub struct Refused {
+    pub why: Refusal,
+    /// The file, or for a scan that is to be saved the scan's.
+    path: PathBuf,
+    /// The slot that was asked for.
+    slot: Option<u64>,
+    /// How many slots the file has.
+    slots: Option<u64>,
+    /// All bytes of the file are zeros.
+    is_zeros: bool,
+}
+
+impl Refused {
+    /// A refusal of this file.
+    pub fn of(path: &Path, why: Refusal) -> Refused {
+        Refused { why, path: path.to_path_buf(), slot: None, slots: None, is_zeros: false }
+    }
+
+    /// The same, of the slot that was asked for.
+    pub fn at(self, slot: Option<u64>) -> Refused {
+        Refused { slot, ..self }
+    }
+
+    /// The same, of a file with so many slots.
+    pub fn among(self, slots: Option<u64>) -> Refused {
+        Refused { slots, ..self }
+    }
+
+    /// The same, of a file of zeros or not.
+    pub fn of_zeros(self, is_zeros: bool) -> Refused {
+        Refused { is_zeros, ..self }
+    }
+
+    /// The slot that the refusal is about, where it is about one.
+    fn its_slot(&self) -> Option<u64> {
+        match self.why {
+            Refusal::BadEntry(slot) | Refusal::EntryAboveUsed(slot) | Refusal::SharedRecord(slot) => Some(slot.into()),
+            Refusal::NoSuchSlot | Refusal::EmptySlot | Refusal::BadScan(_) => self.slot,
+            _ => None,
+        }
+    }
+
+    /// Its numbers, for programs.
+    pub fn fields(&self) -> Vec<(&'static str, Json)> {
+        let mut fields = vec![("refused", Json::number(self.why.number()))];
+        fields.extend(self.its_slot().map(|slot| ("slot", Json::number(slot))));
+        if let Refusal::BadScan(rule) = self.why {
+            fields.push(("rule", Json::number(rule.number())));
+        }
+        fields.push(("file", Json::path(&self.path)));
+        fields
+    }
+}
+
+impl fmt::Display for Refused {
+    fn fmt(&self, f: &mut fmt::Formatter) -> fmt::Result {
+        let (number, file) = (self.why.number(), shown::name(&self.path));
+        match (self.why, self.its_slot()) {
+            (Refusal::OldForm, _) if self.is_zeros => write!(
+                f,
+                "refused 2: {file} is empty, all its bytes are zeros: if nothing is missing in it, blank it with --force"
+            ),
+            (Refusal::NoSuchSlot, Some(slot)) if self.slots.is_some() => write!(
+                f,
+                "refused 9: {file} has slots 1 to {}, and {slot} is none of them: give one of those",
+                self.slots.unwrap_or_default()
+            ),
+            (Refusal::EmptySlot, Some(slot)) => write!(f, "refused 10: {file}: slot {slot}: {}", self.why.sentence()),
+            (Refusal::BadScan(_), Some(slot)) => write!(f, "refused 11: {file}: slot {slot}: {}", self.why.sentence()),
+            (_, Some(slot)) => write!(f, "refused {number} slot {slot}: {file}: {}", self.why.sentence()),
+            (_, None) => write!(f, "refused {number}: {file}: {}", self.why.sentence()),
+        }
+    }
+}
