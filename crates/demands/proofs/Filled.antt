@@ -23,7 +23,8 @@ use Rattle.paper.specs.Index.{runOf, slotsOf, openOf, Sound}
 use Rattle.paper.specs.Scan.{classesOf, startsOf, rule1, rule2, rule3, rule4, rule5, rule6, rising, headlen, datalen, ruledOf}
 use Rattle.paper.specs.Store.{blankSizes, blankOf, blankFile, recordsFor, freePlace}
 use Rattle.paper.proofs.Opening.{sound-open}
-use Rattle.paper.proofs.Begins.{InIndex, SaveTaken, taken-save}
+use Rattle.paper.specs.Look.{InIndex}
+use Rattle.paper.proofs.Begins.{SaveTaken, taken-save}
 use Rattle.paper.proofs.Blank.{blank-facts, facts-blank, blank-file, blank-sound, blank-length, first-place}
 use Rattle.demands.specs.History.{save, takes, isAccepted, slotOf, stateAfter, answerAfter}
 use Rattle.demands.specs.Truth.{ReadsBack}

@@ -6,4 +6,5 @@ pub mod Scan
 pub mod Look
 pub mod Store
 pub mod Step
+pub mod Numbers
 pub mod Lister
