@@ -22,8 +22,8 @@ use Rattle.paper.proofs.Free.{facts-free, place-free}
 use Rattle.paper.proofs.Begins.{Placed, save-taken, taken-save, keep-taken, taken-keep, keep-slotted, clear-is-taken, taken-is-clear}
 use Rattle.paper.proofs.Ready.{fileAt, rows-sound, late-sound}
 use Rattle.demands.specs.Causes.{FreeRun}
-use Rattle.demands.specs.History.{Op, save, keep, clear, Whole, begin, scanOf, recordsOf, takes, State, stateAfter}
-use Rattle.demands.specs.Begun.{SaveJob, LowestEmpty, ClearJob, Begins, grown, Grows, RecordOne}
+use Rattle.demands.specs.History.{Op, save, keep, clear, begin, scanOf, takes, State, stateAfter}
+use Rattle.demands.specs.Begun.{SaveJob, LowestEmpty, ClearJob, Begins, grown, RecordOne}
 use Rattle.demands.proofs.Start.{Starts, starts, accepts, steps-are}
 use Rattle.demands.proofs.Refusing.{run-free, free-run}
 

@@ -1,14 +1,14 @@
 -- Demand 2, of the entry as the call gives it.
-use Prim.Native.Nat.{ℕ, _+_, _-_, _*_, _≤_, _<_}
+use Prim.Native.Nat.{ℕ, _+_, _-_, _≤_, _<_}
 use mathlib.Core.Path.{_≡_, refl, sym, _∙_, ap, subst}
-use mathlib.Core.Bool.{Bool, true, false}
+use mathlib.Core.Bool.{true, false}
 use mathlib.Core.List.{List, [], _∷_, _++_}
 use mathlib.Core.Logic.{⊎-elim}
 use native.Mathlib.Omega.{arith}
 use borrow.Author.Tests.{lt-ltb, le-ltb, lt-leb, le-leb, leb-true}
 use lib.Dec.{leb}
 use lib.Ieee.{Float, binary32, binary64, ofBits}
-use lib.ListN.{length, getD}
+use lib.ListN.{length}
 use Rattle.lent.specs.Checks.{Fired, clear, fires, fired, answer}
 use Rattle.lent.specs.Lists.{all}
 use Rattle.lent.specs.Number.{big, number, bytes, be16, be32, be64, int16}
@@ -20,16 +20,13 @@ use Rattle.lent.proofs.Parts.{part-part, part-join}
 use Rattle.paper.specs.declared.sizes.Sizes.{Sizes}
 use Rattle.paper.specs.declared.sizes.Run.{Run}
 use Rattle.paper.specs.declared.refusal.Refusal.{Refusal}
-use Rattle.paper.specs.declared.answer.Opened.the-variants.{Opens}
 use Rattle.paper.specs.declared.answer.Taken.the-variants.{Accepted, Refused}
-use Rattle.paper.specs.declared.entry.Entry.{Entry}
 use Rattle.paper.specs.declared.entry.Found.{Found}
-use Rattle.paper.specs.declared.job.Job.{Job}
 use Rattle.paper.specs.Refusals.{kindSays}
 use Rattle.paper.specs.Sizes.{sizesOf, homeOf}
-use Rattle.paper.specs.Index.{runOf, Full, entryAt, Sound}
+use Rattle.paper.specs.Index.{runOf, Full, Sound}
 use Rattle.paper.specs.Entry.{naturalOf, kindOf, fieldsOf, noEntry}
-use Rattle.paper.specs.Look.{slotChecks, foundOf, InIndex}
+use Rattle.paper.specs.Look.{slotChecks, foundOf}
 use Rattle.paper.specs.Store.{recordsFor, runFrom}
 use Rattle.paper.proofs.Sizing.{home-is, home-in}
 use Rattle.paper.proofs.Opening.{open-sound, open-reads}
@@ -38,7 +35,7 @@ use Rattle.paper.proofs.Begins.{SlotTaken, slot-is-taken}
 use Rattle.paper.proofs.Reading.{slot-clear}
 use Rattle.paper.proofs.Confirming.{Confirms, ended, saved-entry, saved-run}
 use Rattle.demands.specs.Reads.{entryByte}
-use Rattle.demands.specs.Entries.{Bytes, bits16, fieldBytes, KindIs, EntryIs, EntryFields, SavedEntry, SavedGives}
+use Rattle.demands.specs.Entries.{Bytes, bits16, fieldBytes, KindIs, EntryIs, EntryFields, SavedGives}
 
 -- ---- the fields, written back
 

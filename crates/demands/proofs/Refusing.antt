@@ -14,7 +14,7 @@ use Rattle.lent.proofs.Leasts.{lowest-least, none-least}
 use Rattle.lent.proofs.Checks.{judge-append, judge-fires}
 use Rattle.paper.specs.declared.sizes.Sizes.{Sizes}
 use Rattle.paper.specs.declared.refusal.Refusal.{Refusal}
-use Rattle.paper.specs.declared.refusal.Refusal.the-variants.{NoSuchSlot, NoEmptySlot, BadScan, BadBlank, Disagrees, Differs}
+use Rattle.paper.specs.declared.refusal.Refusal.the-variants.{NoSuchSlot, NoEmptySlot, BadScan, Disagrees, Differs}
 use Rattle.paper.specs.declared.answer.Opened.{Opened}
 use Rattle.paper.specs.declared.answer.Opened.the-variants as opened
 use Rattle.paper.specs.declared.answer.Listed.the-variants as listed
@@ -28,12 +28,12 @@ use Rattle.paper.specs.declared.job.Job.{Job}
 use Rattle.paper.specs.declared.job.Begun.{Begun}
 use Rattle.paper.specs.declared.job.Step.{Step}
 use Rattle.paper.specs.declared.job.Step.the-variants as step
-use Rattle.paper.specs.Refusals.{Says, refuses, openedSays, listedSays, spanSays, takenSays, stepSays}
+use Rattle.paper.specs.Refusals.{openedSays, listedSays, spanSays, takenSays, stepSays}
 use Rattle.paper.specs.Sizes.{sizesOf, capacityOf, startOf, roomOf}
-use Rattle.paper.specs.Index.{runOf, empty, Full, shownOf, openChecks, openOf, Lies, Sound}
+use Rattle.paper.specs.Index.{runOf, empty, shownOf, openChecks, openOf, Lies, Sound}
 use Rattle.paper.specs.Scan.{startsOf, classesOf, headlen, datalen, classIn, ruledOf, ofRuled, classOf, dataOf, Rule}
-use Rattle.paper.specs.Look.{listOf, listedOf, noSlot, slotChecks, foundOf, showOf, readIn, readOf, InIndex}
-use Rattle.paper.specs.Store.{blankSizes, blankTests, blankChecks, blankOf, recordsFor, freeAt, freePlace, emptySlot, refused, accepted, placeFor, saveJob, clearJob, keepSlot, reasonOf, scanChecks, saveOf, keepOf, clearOf, countOf, writesOf}
+use Rattle.paper.specs.Look.{listOf, listedOf, noSlot, slotChecks, foundOf, showOf, readOf, InIndex}
+use Rattle.paper.specs.Store.{blankSizes, blankTests, blankChecks, blankOf, recordsFor, freeAt, freePlace, emptySlot, refused, placeFor, keepSlot, reasonOf, scanChecks, saveOf, keepOf, clearOf, countOf, writesOf}
 use Rattle.paper.specs.Step.{agrees, hasLeft, wroteOf, stands, confirmed, confirmOf, stepAnswer, Agreeing, Standing}
 use Rattle.paper.proofs.Opening.{shaped-facts, facts-shaped, empty-facts, facts-empty, full-facts, facts-full, then-refused, then-opens, open-reads}
 use Rattle.paper.proofs.Rules.{keeps-lengths}

@@ -1,19 +1,18 @@
 -- Demand 3, of a slot that no change reached: entry, show and read answer as before, and give the same bytes.
-use Prim.Native.Nat.{ℕ, _+_, _-_, _*_, _≤_, _<_}
-use mathlib.Core.Path.{_≡_, refl, sym, _∙_, ap, subst}
-use mathlib.Core.Bool.{Bool, true, false, not, cond}
+use Prim.Native.Nat.{ℕ, _+_, _-_, _*_, _≤_}
+use mathlib.Core.Path.{_≡_, refl, sym, _∙_, ap}
+use mathlib.Core.Bool.{Bool, true, false, not}
 use mathlib.Core.List.{List, [], _∷_}
 use native.Mathlib.Omega.{arith}
-use native.Mathlib.Nat.{add-zero}
 use borrow.Author.Tests.{ne-eqb}
-use lib.ListN.{length, take, drop, getD}
+use lib.ListN.{length, drop, getD}
 use lib.Seq.{take-take}
 use Rattle.lent.specs.Checks.{Check, Fired, clear, fires, fired, answer, judge}
 use Rattle.lent.specs.Lists.{all}
 use Rattle.lent.specs.Number.{big}
 use Rattle.lent.specs.Part.{part, Alike}
 use Rattle.lent.proofs.Numbers.{number-same}
-use Rattle.lent.proofs.Parts.{length-part-min, part-at, part-part, alike-within}
+use Rattle.lent.proofs.Parts.{length-part-min, part-at, part-part}
 use Rattle.paper.specs.declared.sizes.Sizes.{Sizes}
 use Rattle.paper.specs.declared.sizes.Run.{Run}
 use Rattle.paper.specs.declared.refusal.Refusal.{Refusal}
@@ -23,8 +22,7 @@ use Rattle.paper.specs.declared.answer.Ruled.the-variants.{Keeps, Breaks}
 use Rattle.paper.specs.declared.answer.Span.{Span}
 use Rattle.paper.specs.declared.answer.Span.the-variants as span
 use Rattle.paper.specs.declared.answer.Taken.the-variants as taken
-use Rattle.paper.specs.declared.entry.Found.{Found}
-use Rattle.paper.specs.Sizes.{sizesOf, renewed, capacityOf, homeOf, startOf}
+use Rattle.paper.specs.Sizes.{sizesOf, renewed, homeOf, startOf}
 use Rattle.paper.specs.Index.{runOf, shownOf, entryAt, openOf, Sound}
 use Rattle.paper.specs.Entry.{fieldsOf, noEntry}
 use Rattle.paper.specs.Scan.{ruledOf, partOf}
@@ -34,9 +32,9 @@ use Rattle.paper.proofs.Opening.{then-opens, open-reads, open-sound, sound-open
 use Rattle.paper.proofs.Encoding.{statedBy, entry-run}
 use Rattle.paper.proofs.Rules.{keeps-lengths}
 use Rattle.paper.proofs.Begins.{slot-facts}
-use Rattle.demands.specs.History.{Op, Cut, slotOf, run, reached, Held, heldAt, given, Holding, put, change, Done, Wholes, after, holds, Spares}
+use Rattle.demands.specs.History.{slotOf, run, reached, Held, heldAt, Holding, change, Done, after, holds, Spares}
 use Rattle.demands.specs.Survival.{StillSo, Stays}
-use Rattle.demands.proofs.Histories.{Outcome, history}
+use Rattle.demands.proofs.Histories.{history}
 
 -- ---- a call on a slot of a file that opens
 

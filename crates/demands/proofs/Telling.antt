@@ -19,7 +19,6 @@ use Rattle.paper.specs.declared.job.Job.{Job}
 use Rattle.paper.specs.declared.job.Step.the-variants as step
 use Rattle.paper.specs.Sizes.{sizesOf, bootBytes, startOf, homeOf}
 use Rattle.paper.specs.Index.{runOf, empty, slotsOf, openOf}
-use Rattle.paper.specs.Look.{listOf}
 use Rattle.paper.specs.Store.{recordsFor, countOf, paddedOf, sizesAfter, entryAfter, writesOf}
 use Rattle.paper.specs.Step.{agrees, hasLeft, writeAt, stands, confirmOf, stepFile, stepAnswer}
 use Rattle.paper.proofs.Opening.{open-sound, open-reads, slots-holds, holds-slots, full-holds}

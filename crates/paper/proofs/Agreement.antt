@@ -8,7 +8,6 @@ use borrow.Author.Tests.{lt-ltb, le-ltb, le-leb, eq-eqb, ne-eqb, ltb-true, leb-t
 use lib.ListN.{length, take, drop}
 use Rattle.lent.specs.Checks.{Fired, clear, fires, fired}
 use Rattle.lent.specs.Lists.{all}
-use Rattle.lent.specs.Part.{part}
 use Rattle.lent.specs.Write.{write, pad}
 use Rattle.lent.proofs.Lists.{all-true, true-all, true≢false, not-so, asked, answered}
 use Rattle.lent.proofs.Checks.{judge-clear}
@@ -22,8 +21,8 @@ use Rattle.paper.specs.declared.answer.Opened.the-variants.{Opens}
 use Rattle.paper.specs.declared.job.Job.{Job}
 use Rattle.paper.specs.declared.job.Step.{Step}
 use Rattle.paper.specs.declared.job.Step.the-variants.{Wrote, Refused}
-use Rattle.paper.specs.Sizes.{sizesOf, bootBytes, capacityOf, recordOf, startOf, homeOf, roomOf, bootChecks}
-use Rattle.paper.specs.Index.{bootOf, openOf, entryAt, Booted}
+use Rattle.paper.specs.Sizes.{sizesOf, bootBytes, recordOf, startOf, homeOf, bootChecks}
+use Rattle.paper.specs.Index.{bootOf, openOf, Booted}
 use Rattle.paper.specs.Store.{Write, perform, countOf, paddedOf, sizesAfter, entryAfter, writesOf}
 use Rattle.paper.specs.Step.{isClear, agreeTests, agrees, writeAt, hasLeft, stepFile, placed, moved, stepJob, standTests, stands, confirmOf, stepAnswer, steppedOf, Agreeing, Standing}
 use Rattle.paper.proofs.Opening.{opens-clear, boot-sound, sound-boot}

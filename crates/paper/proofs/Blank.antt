@@ -20,7 +20,7 @@ use Rattle.paper.specs.declared.sizes.Sizes.{Sizes}
 use Rattle.paper.specs.declared.sizes.Run.{Run}
 use Rattle.paper.specs.declared.refusal.Refusal.{Refusal}
 use Rattle.paper.specs.declared.answer.Taken.the-variants.{Accepted, Refused}
-use Rattle.paper.specs.Sizes.{sizesOf, versionOf, bootBytes, capacityOf, homeOf, roomOf, Shaped, Ranged}
+use Rattle.paper.specs.Sizes.{sizesOf, versionOf, bootBytes, capacityOf, homeOf, roomOf, Ranged}
 use Rattle.paper.specs.Index.{runOf, Sound}
 use Rattle.paper.specs.Store.{blankSizes, blankTests, blankChecks, blankOf, blankFile, freeAt, freePlace, Blankable}
 use Rattle.paper.proofs.Sizing.{head-long, home-end}

@@ -8,3 +8,4 @@ pub mod Store
 pub mod Step
 pub mod Numbers
 pub mod Lister
+pub mod Known
