@@ -57,7 +57,7 @@ pub fn text(file: &[u8], out: &mut [u8]) -> usize
     ensures bytes { λ r. ⌜ now (out .exit) ≡ write (now (out .entry)) 0 (listText (now (file .entry))) ⌝ }
 {
     let mut row = [0u32; 8192];
-    let j = index::judged(file, &mut row);
+    let j = index::rowed::judged(file, &mut row);
     match j {
         Opened::Refused(r) => refused(&mut *out, r),
         Opened::Opens(z) => {

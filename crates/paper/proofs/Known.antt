@@ -146,11 +146,20 @@ files =
       opens = refl;
       lists = refl;
       lines = refl;
+      no-room = refl;
       show-1 = refl;
       show-2 = refl;
+      show-3 = refl;
+      show-4 = refl;
+      show-0 = refl;
+      show-5 = refl;
       read-1 = refl;
       read-2 = refl;
+      read-3 = refl;
+      read-4 = refl;
       entry-1 = refl;
+      entry-2 = refl;
+      entry-3 = refl;
     }
 
 pub renewed : Renewed

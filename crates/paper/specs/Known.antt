@@ -186,36 +186,44 @@ pub record Scans : Type 0 where
 
 -- ---- a file
 
--- N 2, D 2, L 512, M 256, U 2, counter all ones, type 1: slot 1 in record 4, slot 2 in record 3; a byte after word 8, and one after an entry's byte 61
+-- N 2, D 3, L 512, M 128, U 4, counter all ones, type 1: slot 1 in record 4, slot 2 in record 3, slot 3 empty, slot 4 in record 5, which holds no scan; a
+-- byte after word 8, and one after an entry's byte 61
 abbrev pub fileBoot : List ℕ
-fileBoot = 0 ∷ 0 ∷ 0 ∷ 2 ∷ 0 ∷ 0 ∷ 0 ∷ 2 ∷ 0 ∷ 0 ∷ 2 ∷ 0 ∷ 0 ∷ 0 ∷ 1 ∷ 0 ∷ 0 ∷ 0 ∷ 0 ∷ 2 ∷ 255 ∷ 255 ∷ 255 ∷ 255 ∷ 0 ∷ 0 ∷ 0 ∷ 1 ∷ 0 ∷ 0 ∷ 0 ∷ 1 ∷ 77 ∷ []
+fileBoot =
+    0 ∷ 0 ∷ 0 ∷ 2 ∷ 0 ∷ 0 ∷ 0 ∷ 3 ∷ 0 ∷ 0 ∷ 2 ∷ 0 ∷ 0 ∷ 0 ∷ 0 ∷ 128 ∷ 0 ∷ 0 ∷ 0 ∷ 4 ∷ 255 ∷ 255 ∷ 255 ∷ 255 ∷ 0 ∷ 0 ∷ 0 ∷ 1 ∷ 0 ∷ 0 ∷ 0 ∷ 1 ∷ 77
+    ∷ replicate 479 0
 
-abbrev pub entry1 : List ℕ
-entry1 = 0 ∷ 0 ∷ 0 ∷ 4 ∷ 0 ∷ 0 ∷ 0 ∷ 4 ∷ (bytes54 ++ (78 ∷ []))
-
-abbrev pub entry2 : List ℕ
-entry2 = 0 ∷ 0 ∷ 0 ∷ 3 ∷ 0 ∷ 0 ∷ 0 ∷ 3 ∷ replicate 54 5
+abbrev pub fileIndex : List ℕ
+fileIndex =
+    (0 ∷ 0 ∷ 0 ∷ 4 ∷ 0 ∷ 0 ∷ 0 ∷ 4 ∷ (bytes54 ++ (78 ∷ replicate 65 0)))
+    ++ ((0 ∷ 0 ∷ 0 ∷ 3 ∷ 0 ∷ 0 ∷ 0 ∷ 3 ∷ replicate 120 5) ++ (replicate 128 0 ++ (0 ∷ 0 ∷ 0 ∷ 5 ∷ 0 ∷ 0 ∷ 0 ∷ 5 ∷ replicate 120 0)))
 
 unfoldable pub file : List ℕ
-file =
-    fileBoot
-    ++ (replicate 479 0
-    ++ (entry1 ++ (replicate 193 0 ++ (entry2 ++ (replicate 194 0 ++ (scan15 ++ (replicate 200 0 ++ (scan13 ++ replicate 204 0))))))))
+file = fileBoot ++ (fileIndex ++ (scan15 ++ (replicate 200 0 ++ (scan13 ++ (replicate 204 0 ++ replicate 512 0)))))
 
 abbrev pub fileSizes : Sizes
-fileSizes = record { n = 2; d = 2; l = 512; m = 256; u = 2; counter = 4294967295; kind = 1 }
+fileSizes = record { n = 2; d = 3; l = 512; m = 128; u = 4; counter = 4294967295; kind = 1 }
 
 pub record File : Type 0 where
-  pub long : length file ≡ 2048
+  pub long : length file ≡ 2560
   pub opens : openOf file ≡ opened.Opens fileSizes
   -- "slot, first and last as three 32-bit numbers per scan in slot order, and no further element"
-  pub lists : listedOf file (replicate 8 9) ≡ listed.Scans 2
-  pub lines : listedOut file (replicate 8 9) ≡ 1 ∷ 4 ∷ 4 ∷ 2 ∷ 3 ∷ 3 ∷ 9 ∷ 9 ∷ []
+  pub lists : listedOf file (replicate 11 9) ≡ listed.Scans 3
+  pub lines : listedOut file (replicate 11 9) ≡ 1 ∷ 4 ∷ 4 ∷ 2 ∷ 3 ∷ 3 ∷ 4 ∷ 5 ∷ 5 ∷ 9 ∷ 9 ∷ []
+  pub no-room : listedOf file (replicate 8 9) ≡ listed.Refused TooSmall
   pub show-1 : showOf file 1 ≡ Part 1536 2048
   pub show-2 : showOf file 2 ≡ Part 1024 1536
+  pub show-3 : showOf file 3 ≡ span.Refused EmptySlot
+  pub show-4 : showOf file 4 ≡ Part 2048 2560
+  pub show-0 : showOf file 0 ≡ span.Refused NoSuchSlot
+  pub show-5 : showOf file 5 ≡ span.Refused NoSuchSlot
   pub read-1 : readOf file 1 ≡ Part 1536 1844
   pub read-2 : readOf file 2 ≡ Part 1024 1336
+  pub read-3 : readOf file 3 ≡ span.Refused EmptySlot
+  pub read-4 : readOf file 4 ≡ span.Refused (BadScan 2)
   pub entry-1 : foundOf file 1 .entry .source ≡ 17 ∷ 18 ∷ 19 ∷ 20 ∷ 21 ∷ 22 ∷ 23 ∷ 24 ∷ 25 ∷ 26 ∷ 27 ∷ 28 ∷ 29 ∷ 30 ∷ 31 ∷ 32 ∷ []
+  pub entry-2 : foundOf file 2 .entry .last ≡ 3
+  pub entry-3 : foundOf file 3 .answer ≡ taken.Refused EmptySlot
 
 -- ---- the counter and record 1
 
@@ -231,7 +239,7 @@ pub record Renewed : Type 0 where
   pub as-it-was : sizesAfter (record { n = 3; d = 90; l = 512; m = 64; u = 6; counter = 7; kind = 0 }) saveJob ≡ record { n = 3; d = 90; l = 512; m = 64; u = 6; counter = 8; kind = 0 }
   pub cleared : sizesAfter (record { n = 3; d = 9; l = 512; m = 64; u = 4; counter = 7; kind = 0 }) clearJob ≡ record { n = 3; d = 9; l = 512; m = 64; u = 4; counter = 8; kind = 0 }
   -- "after all ones comes zero"
-  pub all-ones : sizesAfter fileSizes clearJob ≡ record { n = 2; d = 2; l = 512; m = 256; u = 2; counter = 0; kind = 1 }
+  pub all-ones : sizesAfter fileSizes clearJob ≡ record { n = 2; d = 3; l = 512; m = 128; u = 4; counter = 0; kind = 1 }
 
 -- ---- zeros
 
@@ -245,7 +253,7 @@ pub record Zeros : Type 0 where
 pub record Prints : Type 0 where
   pub at-most : (f : List ℕ) → length f ≡ 65536 → printed f ≡ listText f
   pub longer : (f : List ℕ) → length f ≡ 65537 → printed f ≡ 116 ∷ 111 ∷ 111 ∷ 32 ∷ 108 ∷ 111 ∷ 110 ∷ 103 ∷ 10 ∷ []
-  -- "slots 2 used 2 scans 2", "1 4 4", "2 3 3"
-  pub lists : printed file ≡ 115 ∷ 108 ∷ 111 ∷ 116 ∷ 115 ∷ 32 ∷ 50 ∷ 32 ∷ 117 ∷ 115 ∷ 101 ∷ 100 ∷ 32 ∷ 50 ∷ 32 ∷ 115 ∷ 99 ∷ 97 ∷ 110 ∷ 115 ∷ 32 ∷ 50 ∷ 10 ∷ 49 ∷ 32 ∷ 52 ∷ 32 ∷ 52 ∷ 10 ∷ 50 ∷ 32 ∷ 51 ∷ 32 ∷ 51 ∷ 10 ∷ []
+  -- "slots 4 used 4 scans 3", "1 4 4", "2 3 3", "4 5 5"
+  pub lists : printed file ≡ 115 ∷ 108 ∷ 111 ∷ 116 ∷ 115 ∷ 32 ∷ 52 ∷ 32 ∷ 117 ∷ 115 ∷ 101 ∷ 100 ∷ 32 ∷ 52 ∷ 32 ∷ 115 ∷ 99 ∷ 97 ∷ 110 ∷ 115 ∷ 32 ∷ 51 ∷ 10 ∷ 49 ∷ 32 ∷ 52 ∷ 32 ∷ 52 ∷ 10 ∷ 50 ∷ 32 ∷ 51 ∷ 32 ∷ 51 ∷ 10 ∷ 52 ∷ 32 ∷ 53 ∷ 32 ∷ 53 ∷ 10 ∷ []
   -- "refused 1 slot 0"
   pub refuses : printed [] ≡ 114 ∷ 101 ∷ 102 ∷ 117 ∷ 115 ∷ 101 ∷ 100 ∷ 32 ∷ 49 ∷ 32 ∷ 115 ∷ 108 ∷ 111 ∷ 116 ∷ 32 ∷ 48 ∷ 10 ∷ []
