@@ -104,38 +104,8 @@ scans =
       keeps-15 = refl;
       data-13 = refl;
       data-15 = refl;
-      class-1-of-13 = refl;
-      class-2-of-13 = refl;
-      class-3-of-13 = refl;
-      class-4-of-13 = refl;
-      class-5-of-13 = refl;
-      class-6-of-13 = refl;
-      class-7-of-13 = refl;
-      class-8-of-13 = refl;
-      class-9-of-13 = refl;
-      class-10-of-13 = refl;
-      class-11-of-13 = refl;
-      class-12-of-13 = refl;
-      class-13-of-13 = refl;
-      class-14-of-13 = refl;
-      class-0-of-13 = refl;
-      class-1-of-15 = refl;
-      class-2-of-15 = refl;
-      class-3-of-15 = refl;
-      class-4-of-15 = refl;
-      class-5-of-15 = refl;
-      class-6-of-15 = refl;
-      class-7-of-15 = refl;
-      class-8-of-15 = refl;
-      class-9-of-15 = refl;
-      class-10-of-15 = refl;
-      class-11-of-15 = refl;
-      class-12-of-15 = refl;
-      class-13-of-15 = refl;
-      class-14-of-15 = refl;
-      class-15-of-15 = refl;
-      class-16-of-15 = refl;
-      class-0-of-15 = refl;
+      classes-13 = refl;
+      classes-15 = refl;
     }
 
 pub files : File
@@ -159,7 +129,7 @@ files =
       read-4 = refl;
       entry-1 = refl;
       entry-2 = refl;
-      entry-3 = refl;
+      entry-4 = refl;
     }
 
 pub renewed : Renewed

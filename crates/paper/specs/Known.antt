@@ -7,6 +7,7 @@ use lib.Ieee.{Float, binary32, binary64, ofBits}
 use lib.IntN.{pos, negsuc}
 use lib.ListN.{length, replicate}
 use Rattle.lent.specs.Number.{int16}
+use Rattle.lent.specs.Lists.{table}
 use Rattle.paper.specs.declared.sizes.Sizes.{Sizes}
 use Rattle.paper.specs.declared.refusal.Refusal.the-variants.{TooShort, OldForm, UnknownForm, OutOfRange, PastEnd, BadEntry, AboveUse, SharedRecord, NoSuchSlot, EmptySlot, BadScan, NoEmptySlot, NoRoom, Disagrees, Differs, BadBlank, TooSmall}
 use Rattle.paper.specs.declared.answer.Opened.the-variants as opened
@@ -151,42 +152,13 @@ pub record Scans : Type 0 where
   pub keeps-15 : ruledOf scan15 true ≡ Keeps 304 8
   pub data-13 : dataOf scan13 ≡ Part 296 308
   pub data-15 : dataOf scan15 ≡ Part 304 312
-  pub class-1-of-13 : classOf scan13 1 ≡ Part 32 160
-  pub class-2-of-13 : classOf scan13 2 ≡ Part 160 184
-  pub class-3-of-13 : classOf scan13 3 ≡ Part 184 192
-  pub class-4-of-13 : classOf scan13 4 ≡ Part 192 208
-  pub class-5-of-13 : classOf scan13 5 ≡ Part 208 216
-  pub class-6-of-13 : classOf scan13 6 ≡ Part 216 224
-  pub class-7-of-13 : classOf scan13 7 ≡ Part 224 232
-  pub class-8-of-13 : classOf scan13 8 ≡ Part 232 240
-  pub class-9-of-13 : classOf scan13 9 ≡ Part 240 248
-  pub class-10-of-13 : classOf scan13 10 ≡ Part 248 256
-  pub class-11-of-13 : classOf scan13 11 ≡ Part 256 264
-  pub class-12-of-13 : classOf scan13 12 ≡ Part 264 280
-  pub class-13-of-13 : classOf scan13 13 ≡ Part 280 296
-  pub class-14-of-13 : classOf scan13 14 ≡ Part 0 0
-  pub class-0-of-13 : classOf scan13 0 ≡ Part 0 0
-  pub class-1-of-15 : classOf scan15 1 ≡ Part 32 168
-  pub class-2-of-15 : classOf scan15 2 ≡ Part 168 176
-  pub class-3-of-15 : classOf scan15 3 ≡ Part 176 184
-  pub class-4-of-15 : classOf scan15 4 ≡ Part 184 192
-  pub class-5-of-15 : classOf scan15 5 ≡ Part 192 200
-  pub class-6-of-15 : classOf scan15 6 ≡ Part 200 208
-  pub class-7-of-15 : classOf scan15 7 ≡ Part 208 216
-  pub class-8-of-15 : classOf scan15 8 ≡ Part 216 224
-  pub class-9-of-15 : classOf scan15 9 ≡ Part 224 232
-  pub class-10-of-15 : classOf scan15 10 ≡ Part 232 240
-  pub class-11-of-15 : classOf scan15 11 ≡ Part 240 248
-  pub class-12-of-15 : classOf scan15 12 ≡ Part 248 256
-  pub class-13-of-15 : classOf scan15 13 ≡ Part 256 264
-  pub class-14-of-15 : classOf scan15 14 ≡ Part 264 288
-  pub class-15-of-15 : classOf scan15 15 ≡ Part 288 304
-  pub class-16-of-15 : classOf scan15 16 ≡ Part 0 0
-  pub class-0-of-15 : classOf scan15 0 ≡ Part 0 0
+  -- class 0, 1 and on, to one past the last
+  pub classes-13 : table 15 (classOf scan13) ≡ Part 0 0 ∷ Part 32 160 ∷ Part 160 184 ∷ Part 184 192 ∷ Part 192 208 ∷ Part 208 216 ∷ Part 216 224 ∷ Part 224 232 ∷ Part 232 240 ∷ Part 240 248 ∷ Part 248 256 ∷ Part 256 264 ∷ Part 264 280 ∷ Part 280 296 ∷ Part 0 0 ∷ []
+  pub classes-15 : table 17 (classOf scan15) ≡ Part 0 0 ∷ Part 32 168 ∷ Part 168 176 ∷ Part 176 184 ∷ Part 184 192 ∷ Part 192 200 ∷ Part 200 208 ∷ Part 208 216 ∷ Part 216 224 ∷ Part 224 232 ∷ Part 232 240 ∷ Part 240 248 ∷ Part 248 256 ∷ Part 256 264 ∷ Part 264 288 ∷ Part 288 304 ∷ Part 0 0 ∷ []
 
 -- ---- a file
 
--- N 2, D 3, L 512, M 128, U 4, counter all ones, type 1: slot 1 in record 4, slot 2 in record 3, slot 3 empty, slot 4 in record 5, which holds no scan; a
+-- N 2, D 3, L 512, M 128, U 4, counter all ones, type 1: slot 1 in record 4, slot 2 in record 3, slot 3 in record 5, which holds no scan, slot 4 empty; a
 -- byte after word 8, and one after an entry's byte 61
 abbrev pub fileBoot : List ℕ
 fileBoot =
@@ -196,7 +168,7 @@ fileBoot =
 abbrev pub fileIndex : List ℕ
 fileIndex =
     (0 ∷ 0 ∷ 0 ∷ 4 ∷ 0 ∷ 0 ∷ 0 ∷ 4 ∷ (bytes54 ++ (78 ∷ replicate 65 0)))
-    ++ ((0 ∷ 0 ∷ 0 ∷ 3 ∷ 0 ∷ 0 ∷ 0 ∷ 3 ∷ replicate 120 5) ++ (replicate 128 0 ++ (0 ∷ 0 ∷ 0 ∷ 5 ∷ 0 ∷ 0 ∷ 0 ∷ 5 ∷ replicate 120 0)))
+    ++ ((0 ∷ 0 ∷ 0 ∷ 3 ∷ 0 ∷ 0 ∷ 0 ∷ 3 ∷ replicate 120 5) ++ ((0 ∷ 0 ∷ 0 ∷ 5 ∷ 0 ∷ 0 ∷ 0 ∷ 5 ∷ replicate 120 0) ++ replicate 128 0))
 
 unfoldable pub file : List ℕ
 file = fileBoot ++ (fileIndex ++ (scan15 ++ (replicate 200 0 ++ (scan13 ++ (replicate 204 0 ++ replicate 512 0)))))
@@ -206,24 +178,25 @@ fileSizes = record { n = 2; d = 3; l = 512; m = 128; u = 4; counter = 4294967295
 
 pub record File : Type 0 where
   pub long : length file ≡ 2560
+  -- "Entry U itself may be empty"
   pub opens : openOf file ≡ opened.Opens fileSizes
   -- "slot, first and last as three 32-bit numbers per scan in slot order, and no further element"
   pub lists : listedOf file (replicate 11 9) ≡ listed.Scans 3
-  pub lines : listedOut file (replicate 11 9) ≡ 1 ∷ 4 ∷ 4 ∷ 2 ∷ 3 ∷ 3 ∷ 4 ∷ 5 ∷ 5 ∷ 9 ∷ 9 ∷ []
+  pub lines : listedOut file (replicate 11 9) ≡ 1 ∷ 4 ∷ 4 ∷ 2 ∷ 3 ∷ 3 ∷ 3 ∷ 5 ∷ 5 ∷ 9 ∷ 9 ∷ []
   pub no-room : listedOf file (replicate 8 9) ≡ listed.Refused TooSmall
   pub show-1 : showOf file 1 ≡ Part 1536 2048
   pub show-2 : showOf file 2 ≡ Part 1024 1536
-  pub show-3 : showOf file 3 ≡ span.Refused EmptySlot
-  pub show-4 : showOf file 4 ≡ Part 2048 2560
+  pub show-3 : showOf file 3 ≡ Part 2048 2560
+  pub show-4 : showOf file 4 ≡ span.Refused EmptySlot
   pub show-0 : showOf file 0 ≡ span.Refused NoSuchSlot
   pub show-5 : showOf file 5 ≡ span.Refused NoSuchSlot
   pub read-1 : readOf file 1 ≡ Part 1536 1844
   pub read-2 : readOf file 2 ≡ Part 1024 1336
-  pub read-3 : readOf file 3 ≡ span.Refused EmptySlot
-  pub read-4 : readOf file 4 ≡ span.Refused (BadScan 2)
+  pub read-3 : readOf file 3 ≡ span.Refused (BadScan 2)
+  pub read-4 : readOf file 4 ≡ span.Refused EmptySlot
   pub entry-1 : foundOf file 1 .entry .source ≡ 17 ∷ 18 ∷ 19 ∷ 20 ∷ 21 ∷ 22 ∷ 23 ∷ 24 ∷ 25 ∷ 26 ∷ 27 ∷ 28 ∷ 29 ∷ 30 ∷ 31 ∷ 32 ∷ []
   pub entry-2 : foundOf file 2 .entry .last ≡ 3
-  pub entry-3 : foundOf file 3 .answer ≡ taken.Refused EmptySlot
+  pub entry-4 : foundOf file 4 .answer ≡ taken.Refused EmptySlot
 
 -- ---- the counter and record 1
 
@@ -253,7 +226,7 @@ pub record Zeros : Type 0 where
 pub record Prints : Type 0 where
   pub at-most : (f : List ℕ) → length f ≡ 65536 → printed f ≡ listText f
   pub longer : (f : List ℕ) → length f ≡ 65537 → printed f ≡ 116 ∷ 111 ∷ 111 ∷ 32 ∷ 108 ∷ 111 ∷ 110 ∷ 103 ∷ 10 ∷ []
-  -- "slots 4 used 4 scans 3", "1 4 4", "2 3 3", "4 5 5"
-  pub lists : printed file ≡ 115 ∷ 108 ∷ 111 ∷ 116 ∷ 115 ∷ 32 ∷ 52 ∷ 32 ∷ 117 ∷ 115 ∷ 101 ∷ 100 ∷ 32 ∷ 52 ∷ 32 ∷ 115 ∷ 99 ∷ 97 ∷ 110 ∷ 115 ∷ 32 ∷ 51 ∷ 10 ∷ 49 ∷ 32 ∷ 52 ∷ 32 ∷ 52 ∷ 10 ∷ 50 ∷ 32 ∷ 51 ∷ 32 ∷ 51 ∷ 10 ∷ 52 ∷ 32 ∷ 53 ∷ 32 ∷ 53 ∷ 10 ∷ []
+  -- "slots 4 used 4 scans 3", "1 4 4", "2 3 3", "3 5 5"
+  pub lists : printed file ≡ 115 ∷ 108 ∷ 111 ∷ 116 ∷ 115 ∷ 32 ∷ 52 ∷ 32 ∷ 117 ∷ 115 ∷ 101 ∷ 100 ∷ 32 ∷ 52 ∷ 32 ∷ 115 ∷ 99 ∷ 97 ∷ 110 ∷ 115 ∷ 32 ∷ 51 ∷ 10 ∷ 49 ∷ 32 ∷ 52 ∷ 32 ∷ 52 ∷ 10 ∷ 50 ∷ 32 ∷ 51 ∷ 32 ∷ 51 ∷ 10 ∷ 51 ∷ 32 ∷ 53 ∷ 32 ∷ 53 ∷ 10 ∷ []
   -- "refused 1 slot 0"
   pub refuses : printed [] ≡ 114 ∷ 101 ∷ 102 ∷ 117 ∷ 115 ∷ 101 ∷ 100 ∷ 32 ∷ 49 ∷ 32 ∷ 115 ∷ 108 ∷ 111 ∷ 116 ∷ 32 ∷ 48 ∷ 10 ∷ []
