@@ -152,6 +152,11 @@ pub prints : Prints
 unfolding number value those least shaped inRange empty inData badAt aboveAt shares sharer sharedAt openOf slotsOf digits linesText listText printed scan13 scan15 file
 prints =
     record {
+      zero = refl;
+      nine = refl;
+      ten = refl;
+      more = refl;
+      most = refl;
       at-most = λ f e. rw (le-leb (length f) 65536 (omega arith)) refl;
       longer = λ f e. rw (lt-leb (length f) 65536 (omega arith)) refl;
       lists = refl;

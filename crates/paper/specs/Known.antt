@@ -27,7 +27,7 @@ use Rattle.paper.specs.Entry.{kindOf, fieldsOf, noEntry, entryBytes}
 use Rattle.paper.specs.Scan.{classesOf, startsOf, ruledOf, classOf, dataOf}
 use Rattle.paper.specs.Look.{listedOf, listedOut, foundOf, showOf, readOf}
 use Rattle.paper.specs.Store.{noJob, sizesAfter}
-use Rattle.paper.specs.Lister.{printed, listText}
+use Rattle.paper.specs.Lister.{decimal, printed, listText}
 
 -- ---- what answers say
 
@@ -224,6 +224,12 @@ pub record Zeros : Type 0 where
 
 -- "reads one file of at most 65,536 bytes .. for a longer input it prints `too long`"
 pub record Prints : Type 0 where
+  -- 0, 9, 10 and 1307 in decimal
+  pub zero : decimal 0 ≡ 48 ∷ []
+  pub nine : decimal 9 ≡ 57 ∷ []
+  pub ten : decimal 10 ≡ 49 ∷ 48 ∷ []
+  pub more : decimal 1307 ≡ 49 ∷ 51 ∷ 48 ∷ 55 ∷ []
+  pub most : decimal 18446744073709551615 ≡ 49 ∷ 56 ∷ 52 ∷ 52 ∷ 54 ∷ 55 ∷ 52 ∷ 52 ∷ 48 ∷ 55 ∷ 51 ∷ 55 ∷ 48 ∷ 57 ∷ 53 ∷ 53 ∷ 49 ∷ 54 ∷ 49 ∷ 53 ∷ []
   pub at-most : (f : List ℕ) → length f ≡ 65536 → printed f ≡ listText f
   pub longer : (f : List ℕ) → length f ≡ 65537 → printed f ≡ 116 ∷ 111 ∷ 111 ∷ 32 ∷ 108 ∷ 111 ∷ 110 ∷ 103 ∷ 10 ∷ []
   -- "slots 4 used 4 scans 3", "1 4 4", "2 3 3", "3 5 5"
