@@ -7,9 +7,11 @@ use native.Mathlib.Omega.{arith}
 use native.Mathlib.Nat.{add-assoc, add-sub-cancel-left, sub-eq-zero-of-le}
 use lib.ListN.{length, take, drop, getD, length-take, length-drop, length-append, drop-of-length-le, List·getD-append}
 use lib.Seq.{length-take-le, getD-take, getD-drop, take-nil, take-all, drop-at, take-append-seam, getD-append-add, ext-getD}
-use Rattle.lent.specs.Part.{part, Alike}
+use borrow.Author.Tests.{lt-ltb, le-ltb}
+use lib.Dec.{ltb}
+use Rattle.lent.specs.Part.{part, placeIn, bytesOn, Alike}
 use Rattle.lent.specs.Write.{write}
-use Rattle.lent.proofs.Lists.{lt-or-ge}
+use Rattle.lent.proofs.Lists.{lt-or-ge, also-false}
 use Rattle.lent.proofs.Writes.{write-before, write-after}
 
 -- ---- a part
@@ -33,6 +35,30 @@ part-past from to s h = rw (drop-of-length-le s h) (take-nil (to - from))
 pub part-rest : (from to : ℕ) (s : List ℕ) → length s ≤ to → part from (length s) s ≡ part from to s
 part-rest from to s h =
     take-all (length s - from) (drop from s) (simp length-drop (omega arith)) ∙ sym (take-all (to - from) (drop from s) (simp length-drop (omega arith)))
+
+-- at which byte it begins, and the address of that byte
+pub place-some : (from to : ℕ) (s : List ℕ) → from < length s → from < to → placeIn from to s ≡ from
+unfolding placeIn
+place-some from to s h k = rw (lt-ltb from (length s) h, lt-ltb from to k)
+
+pub place-past : (from to : ℕ) (s : List ℕ) → length s ≤ from → placeIn from to s ≡ 0
+unfolding placeIn
+place-past from to s h = rw (le-ltb from (length s) h)
+
+pub place-none : (from to : ℕ) (s : List ℕ) → to ≤ from → placeIn from to s ≡ 0
+unfolding placeIn
+place-none from to s h = rw (le-ltb from to h, also-false (ltb from (length s)))
+
+pub part-placed : (from to : ℕ) (s : List ℕ) (i : ℕ) → i < length (part from to s) → getD (part from to s) i 0 ≡ getD s (placeIn from to s + i) 0
+part-placed from to s i h =
+    let l = length-part-min from to s in
+    part-at from to s i (omega arith) ∙ ap (λ (p : ℕ). getD s (p + i) 0) (sym (place-some from to s (omega arith) (omega arith)))
+
+pub on-none : (at : ℕ × ℕ) {n : ℕ} → n ≡ 0 → at ≡ bytesOn n at
+on-none at e = ap (λ (o : ℕ). (at .0, o)) (omega arith)
+
+pub on-some : (at : ℕ × ℕ) {n m : ℕ} → m ≡ n → (at .0, n + at .1) ≡ bytesOn m at
+on-some at e = ap (λ (o : ℕ). (at .0, o)) (omega arith)
 
 -- a part of a part, and two parts that meet
 pub part-part : (a b : ℕ) (s : List ℕ) (i j : ℕ) → a + j ≤ b → b ≤ length s → part i j (part a b s) ≡ part (a + i) (a + j) s

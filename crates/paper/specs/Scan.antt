@@ -10,7 +10,7 @@ use lib.Signed.{ltZ}
 use Rattle.lent.specs.Number.{be16, be64, int16}
 use Rattle.lent.specs.Lists.{table, every, all}
 use Rattle.lent.specs.Checks.{Check, check, judge}
-use Rattle.lent.specs.Part.{part}
+use Rattle.lent.specs.Part.{part, placeIn}
 use Rattle.whole.specs.declared.Whole.the-variants.{Is}
 use Rattle.whole.specs.Length.{lengthOf, sizeOf, isWhole}
 use Rattle.paper.specs.declared.answer.Ruled.{Ruled}
@@ -137,6 +137,11 @@ dataOf s = ofRuled (λ head rest. Part head (head + rest)) (ruledOf s false)
 abbrev pub partOf : List ℕ → Span → List ℕ
 partOf s (Part from to) = part from to s
 partOf s (Refused r) = []
+
+-- at which byte of what was lent that part begins; at 0 where the call is refused
+abbrev pub spanPlace : List ℕ → Span → ℕ
+spanPlace s (Part from to) = placeIn from to s
+spanPlace s (Refused r) = 0
 
 -- ---- the rules in plain facts
 
