@@ -7,6 +7,7 @@ use lib.ListN.{length}
 use Rattle.lent.specs.Number.{number, value, digit, bytes, words, int16}
 use Rattle.lent.specs.Lists.{table, every, those}
 use Rattle.lent.specs.Least.{least}
+use Rattle.lent.specs.Part.{placeIn}
 use Rattle.lent.specs.Write.{write, zeros}
 use Rattle.whole.specs.Number.{exactly, wholeFloat, wholeOf}
 use Rattle.whole.specs.Length.{lengthOf, isWhole, sizeOf}
@@ -16,7 +17,7 @@ use Rattle.paper.specs.Entry.{kindOf, fieldsOf, entryBytes}
 use Rattle.paper.specs.Scan.{classesOf, startsOf, rule1, rule2, rule3, rule4, rule5, rule6, rising, ruledOf, classAt, classEnd, classIn, classOf, dataOf}
 use Rattle.paper.specs.Look.{linesOf, listedOf, listedOut, foundOf, showOf, readOf}
 use Rattle.paper.specs.Lister.{digits, linesText, listText, printed}
-use Rattle.paper.specs.Known.{Refusals, Answers, Boot, Entries, Kinds, scan13, scan15, Scans, file, File, Renewed, Zeros, Prints}
+use Rattle.paper.specs.Known.{Refusals, Answers, Boot, Entries, Kinds, scan13, scan15, Scans, file, File, Parts, Renewed, Zeros, Prints}
 
 pub refusals : Refusals
 refusals =
@@ -130,6 +131,19 @@ files =
       entry-1 = refl;
       entry-2 = refl;
       entry-4 = refl;
+    }
+
+pub parts : Parts
+unfolding placeIn
+parts =
+    record {
+      bytes = refl;
+      place = refl;
+      to-the-end = refl;
+      past-the-end = refl;
+      empty = refl;
+      refused = refl;
+      no-bytes = refl;
     }
 
 pub renewed : Renewed

@@ -24,7 +24,7 @@ use Rattle.paper.specs.Refusals.{Says, refuses, openedSays, listedSays, 
 use Rattle.paper.specs.Sizes.{sizesOf, versionOf, bootBytes}
 use Rattle.paper.specs.Index.{openOf}
 use Rattle.paper.specs.Entry.{kindOf, fieldsOf, noEntry, entryBytes}
-use Rattle.paper.specs.Scan.{classesOf, startsOf, ruledOf, classOf, dataOf}
+use Rattle.paper.specs.Scan.{classesOf, startsOf, ruledOf, classOf, dataOf, partOf, spanPlace}
 use Rattle.paper.specs.Look.{listedOf, listedOut, foundOf, showOf, readOf}
 use Rattle.paper.specs.Store.{noJob, sizesAfter}
 use Rattle.paper.specs.Lister.{decimal, printed, listText}
@@ -197,6 +197,16 @@ pub record File : Type 0 where
   pub entry-1 : foundOf file 1 .entry .source ≡ 17 ∷ 18 ∷ 19 ∷ 20 ∷ 21 ∷ 22 ∷ 23 ∷ 24 ∷ 25 ∷ 26 ∷ 27 ∷ 28 ∷ 29 ∷ 30 ∷ 31 ∷ 32 ∷ []
   pub entry-2 : foundOf file 2 .entry .last ≡ 3
   pub entry-4 : foundOf file 4 .answer ≡ taken.Refused EmptySlot
+
+-- the part that a span names, of five bytes, and where it begins
+pub record Parts : Type 0 where
+  pub bytes : partOf (4 ∷ 5 ∷ 6 ∷ 7 ∷ 8 ∷ []) (Part 1 3) ≡ 5 ∷ 6 ∷ []
+  pub place : spanPlace (4 ∷ 5 ∷ 6 ∷ 7 ∷ 8 ∷ []) (Part 1 3) ≡ 1
+  pub to-the-end : spanPlace (4 ∷ 5 ∷ 6 ∷ 7 ∷ 8 ∷ []) (Part 4 9) ≡ 4
+  pub past-the-end : spanPlace (4 ∷ 5 ∷ 6 ∷ 7 ∷ 8 ∷ []) (Part 5 9) ≡ 0
+  pub empty : spanPlace (4 ∷ 5 ∷ 6 ∷ 7 ∷ 8 ∷ []) (Part 3 3) ≡ 0
+  pub refused : spanPlace (4 ∷ 5 ∷ 6 ∷ 7 ∷ 8 ∷ []) (span.Refused EmptySlot) ≡ 0
+  pub no-bytes : partOf (4 ∷ 5 ∷ 6 ∷ 7 ∷ 8 ∷ []) (span.Refused EmptySlot) ≡ []
 
 -- ---- the counter and record 1
 
