@@ -5,6 +5,8 @@ import re
 # The crate whose definitions are changed, and those below it that its definitions name.
 CHANGED = "paper"
 BELOW = ("lent", "whole")
+# Files of its specs that define nothing: they say what is true of the definitions.
+STATEMENTS = ("Lib", "Known", "Numbers")
 
 # ---- reading the definitions
 #
@@ -12,7 +14,7 @@ BELOW = ("lent", "whole")
 
 TOKEN = re.compile(r"--[^\n]*|[(){};]|[^\s(){};]+")
 RIGHT, LEFT = "right", "left"
-LEVELS = [({"→"}, RIGHT), ({"≡", "≤", "<"}, LEFT), ({"∷", "++"}, RIGHT), ({"+", "-"}, LEFT), ({"*", "/", "%"}, LEFT)]
+LEVELS = [({"→"}, RIGHT), ({"×"}, RIGHT), ({"≡", "≤", "<"}, LEFT), ({"∷", "++"}, RIGHT), ({"+", "-"}, LEFT), ({"*", "/", "%"}, LEFT)]
 OPERATORS = set().union(*(names for names, _ in LEVELS)) | {"=", ":"}
 
 
@@ -153,7 +155,8 @@ class Module:
         kinds, scope = arrows(signature), {}
         for pattern, kind in zip(atoms(patterns), kinds):
             scope.update(house.bound(pattern, kind))
-        self.parts.append(Part(name, "definitions", node, (node.start, node.end), scope, kinds[-1] if kinds else ""))
+        group = "facts" if kinds[-1].startswith("Type") else "definitions"
+        self.parts.append(Part(name, group, node, (node.start, node.end), scope, kinds[-1]))
 
 
 def walk(node):
@@ -164,7 +167,12 @@ def walk(node):
 
 def atoms(text):
     """The names and the bracketed parts of a row of patterns."""
-    return re.findall(r"\([^()]*\)|[^\s()]+", text)
+    found, text = [], text.strip()
+    while text:
+        end = closes(text) + 1 if text[0] == "(" else len(text.split()[0])
+        found.append(text[:end])
+        text = text[end:].strip()
+    return found
 
 
 def scope_of(binders):
@@ -393,16 +401,16 @@ class Maker:
         ops = [op[0] for op in node.ops]
         if ops[0] == "→":
             return
-        tests = self.part.result == "List Bool" or self.text[: node.start].endswith("all (")
+        # Tests are all asked, and facts all hold, in whatever order.
+        even = ops[0] == "×" or self.part.result == "List Bool" or self.text[: node.start].endswith("all (")
         letters = len(ops) > 4 and all(kid.kind == "number" for kid in node.kids[:-1])
         for i, kid in enumerate(node.kids):
             after = ops[i] if i < len(ops) else None
             if after and not letters:
                 self.add("drop", [(kid.start, node.kids[i + 1].start, "")], (node.start, node.end))
-            elif ops[-1] == "++" and not after:
+            elif ops[-1] in ("++", "×") and not after:
                 self.add("drop", [(node.kids[i - 1].end, kid.end, "")], (node.start, node.end))
-            # Tests are all asked, in whatever order.
-            if after and not tests and (ops[i + 1 :] or ["++"])[0] == after:
+            if after and not even and (ops[i + 1 :] or ["++"])[0] == after:
                 self.swap("order", kid, node.kids[i + 1], (kid.start, node.kids[i + 1].end))
 
     def clauses(self, part):
@@ -448,7 +456,7 @@ def wrong_definitions(crates):
     """All of them, in the order of the files; none twice, and none that is the definition itself."""
     house, found, seen = House(crates), [], set()
     for path in sorted((crates / CHANGED / "specs").glob("*.antt")):
-        if path.stem == "Lib":
+        if path.stem in STATEMENTS:
             continue
         module = Module(path, house)
         labels = collections.Counter()
