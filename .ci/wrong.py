@@ -33,6 +33,13 @@ class Reader:
         self.tokens = [(m.group(), m.start(), m.end()) for m in TOKEN.finditer(text, start, end) if not m.group().startswith("--")]
         self.at = 0
 
+    def whole(self):
+        """The expression, and nothing after it: what is not understood is not passed over."""
+        node = self.expression()
+        if self.peek() is not None:
+            raise ValueError(f"cannot read on at: {' '.join(t for t, _, _ in self.tokens[self.at :])}")
+        return node
+
     def peek(self):
         return self.tokens[self.at][0] if self.at < len(self.tokens) else None
 
@@ -127,7 +134,9 @@ class Module:
             elif m := re.match(r"(?:[a-z]+ )*pub (\S+) : ", line):
                 signatures[m[1]] = " ".join(line[m.end() :].split())
             elif m := re.match(r"(\S+)(.*?) =\s", line):
-                self.clause(m[1], m[2], signatures.get(m[1], ""), start + m.end(), end, house)
+                self.clause(m[1], m[2], signatures[m[1]], start + m.end(), end, house)
+            else:
+                raise ValueError(f"{path.name}: cannot read: {line.strip()}")
 
     def items(self):
         """From each line that begins at the margin to the next one, or to a blank line or a comment."""
@@ -143,7 +152,7 @@ class Module:
         return spans
 
     def fact(self, record, field, start, end):
-        node = Reader(self.text, start, end).expression()
+        node = Reader(self.text, start, end).whole()
         scope = dict(record[1])
         for n in walk(node):
             if n.kind == "binder":
@@ -151,7 +160,7 @@ class Module:
         self.parts.append(Part(f"{record[0]}.{field}", "facts", node, (start, end), scope, "Type"))
 
     def clause(self, name, patterns, signature, start, end, house):
-        node = Reader(self.text, start, end).expression()
+        node = Reader(self.text, start, end).whole()
         kinds, scope = arrows(signature), {}
         for pattern, kind in zip(atoms(patterns), kinds):
             scope.update(house.bound(pattern, kind))
