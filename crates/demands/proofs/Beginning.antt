@@ -75,7 +75,7 @@ begins =
           (save-job-is f (keepSlot f) scan about (t .opens) (t .placed), lowest-empty f (t .slotted));
       clear-job = λ f slot e.
           subst (λ (b : Begun). ClearJob f slot (b .job)) (sym (taken-is-clear f slot (clear-is-taken f slot e)))
-          (record { fresh = record { slot-is = refl; size-is = refl; span-is = refl; none-written = refl; begun-on = refl }; clears = refl });
+          (record { fresh = record { slot-is = refl; size-is = refl; span-is = refl; none-written = refl; begun-on = refl }; clears = refl; no-place = refl; no-about = refl });
     }
 
 -- ---- record 1

@@ -3,7 +3,7 @@ use Prim.Native.Nat.{ℕ, _+_, _-_, _%_, _≤_, _<_, max}
 use mathlib.Core.Path.{_≡_}
 use mathlib.Core.Bool.{true, false}
 use mathlib.Core.List.{List}
-use lib.ListN.{length, take}
+use lib.ListN.{length, take, replicate}
 use Rattle.paper.specs.declared.sizes.Sizes.{Sizes}
 use Rattle.paper.specs.declared.answer.Opened.the-variants.{Opens}
 use Rattle.paper.specs.declared.answer.Taken.the-variants.{Accepted}
@@ -39,10 +39,12 @@ pub record LowestEmpty (f : List ℕ) (slot : ℕ) : Type 0 where
   pub empty : runOf f (sizesOf f) slot .first + runOf f (sizesOf f) slot .last ≡ 0
   pub below : (t : ℕ) → 1 ≤ t → t < slot → Full (runOf f (sizesOf f) t)
 
--- a clear "is lent an empty scan"
+-- a clear "is lent an empty scan"; it has no records and no bytes 8 to 61 to give
 pub record ClearJob (f : List ℕ) (slot : ℕ) (j : Job) : Type 0 where
   pub fresh : Fresh f slot 0 j
   pub clears : j .saves ≡ false
+  pub no-place : j .first ≡ 0
+  pub no-about : j .about ≡ replicate 54 0
 
 pub record Begins : Type 0 where
   pub save-job : (f : List ℕ) (slot : ℕ) (scan about : List ℕ) → saveOf f slot scan about .answer ≡ Accepted
