@@ -7,9 +7,11 @@ use native.Mathlib.Omega.{arith}
 use native.Mathlib.Nat.{le-div-iff-mul-le, div-lt-iff-lt-mul, zero-add}
 use borrow.Author.Tests.{ltb-false}
 use lib.Dec.{ltb}
-use lib.ListN.{length, getD}
+use lib.ListN.{length, take, drop, getD}
+use lib.Seq.{take-take}
 use Rattle.lent.specs.Number.{be32}
 use Rattle.lent.specs.Checks.{Check, check}
+use Rattle.lent.specs.Part.{part}
 use Rattle.lent.specs.Write.{write}
 use Rattle.lent.proofs.Checks.{append-clear, clear-all, judge-clear, judge-passed}
 use Rattle.lent.proofs.Parts.{length-part}
@@ -25,14 +27,14 @@ use Rattle.paper.specs.declared.answer.Span.{Span}
 use Rattle.paper.specs.declared.answer.Span.the-variants.{Part, Refused}
 use Rattle.paper.specs.Sizes.{sizesOf, startOf}
 use Rattle.paper.specs.Index.{runOf, shownOf, openChecks, Lies, Sound}
-use Rattle.paper.specs.Scan.{classesOf, startsOf, headlen, datalen, classAt, classEnd, ruledOf, ofRuled, classOf, dataOf, Kept}
+use Rattle.paper.specs.Scan.{classesOf, startsOf, headlen, datalen, classAt, classEnd, ruledOf, ofRuled, classOf, dataOf, Rule, Kept}
 use Rattle.paper.specs.Look.{linesOf, listOf, listChecks, listedOf, listedOut, slotChecks, showOf, readIn, readOf}
 use Rattle.paper.proofs.Sizing.{home-is, less, times}
 use Rattle.paper.proofs.Opening.{open-sound, full-holds, lies-end}
 use Rattle.paper.proofs.Rules.{kept, keeps-lengths}
 use Rattle.paper.proofs.Reasons.{kept-rule}
 use Rattle.paper.proofs.Begins.{SlotTaken, slot-is-taken}
-use Rattle.paper.proofs.Classes.{class-lies, class-next, class-last, class-here, class-below, class-above, start-at, class-in, data-is}
+use Rattle.paper.proofs.Classes.{class-lies, class-next, class-last, class-here, class-below, class-above, start-at, class-in, data-is, rules-taken}
 use Rattle.demands.specs.Reads.{firstAt, lastAt, ListLines, Shown, ShowRecords, Read, ReadScan, Tiled, ClassesTile, DataTile}
 
 -- by record and place, or by the byte
@@ -156,6 +158,10 @@ ruled-part s k a b e = go (ruledOf s false) refl e
     go (Keeps head rest) p e = let l = keeps-lengths p in rw (l .head-is, l .rest-is) (p, e)
     go (Breaks n) p e = absurd (never (BadScan n) a b e)
 
+-- the first k bytes of a part
+front-part : (a b k : ℕ) (f : List ℕ) → k ≤ b - a → take k (part a b f) ≡ part a (a + k) f
+front-part a b k f h = let e : a + k - a ≡ k = omega arith in rw e (take-take k (b - a) (drop a f) h)
+
 pub read-scan : ReadScan
 unfolding readOf showOf
 read-scan f s from to e =
@@ -175,6 +181,10 @@ read-scan f s from to e =
       keeps = kept-rule (kept (q .0));
       so-many = refl;
       within = omega (arith, keeps-lengths (q .0) .within, length-part a b f (h .within), h .some);
+      alone = λ n.
+          subst (λ (s : List ℕ). Rule s false n)
+          (front-part a b (headlen (shownOf f z s) + datalen (shownOf f z s)) f (omega (arith, keeps-lengths (q .0) .within, length-part a b f (h .within))))
+          (kept-rule (kept (rules-taken (shownOf f z s) false (q .0))) n);
     }))
 
 -- ---- class and data

@@ -60,6 +60,8 @@ pub record Read (f : List ℕ) (s from to : ℕ) : Type 0 where
   pub keeps : (n : ℕ) → Rule (part from end f) false n
   pub so-many : to ≡ from + (headlen (part from end f) + datalen (part from end f))
   pub within : to ≤ end
+  -- so that its classes and data can be asked of what was read alone
+  pub alone : (n : ℕ) → Rule (part from to f) false n
 
 abbrev pub ReadScan : Type 0
 ReadScan = (f : List ℕ) (s from to : ℕ) → readOf f s ≡ Part from to → Read f s from to
