@@ -27,7 +27,9 @@
  * bootstrap. Records are numbered from 1, slots from 1, classes from 1. Numbers inside the file are
  * big-endian; numbers in these structs are the machine's own.
  *
- * The refusals, in the order in which they are looked for ("open's own" are 1 to 8):
+ * The refusals by number. Each call's comment has its own in the order in which they are looked
+ * for: "open's own", 1 to 8, as numbered; then 9 or 12, 10, 11, 13 (so a keep's 12 comes before its
+ * 11); a list's 17 last; a step's 14 first, and of a confirming step then 1 to 8 and 15.
  *
  *    1  fewer than 512 bytes
  *    2  the old form of file (word 8 is 0)

@@ -111,6 +111,9 @@ CASES = [
     ("bytes_65537", WIDE + b"\0", "too long\n"),
 ]
 
+# What cannot be read has no verdict: a folder, which opens and then fails to be read, and a name that no file has.
+UNREAD = [(".", "cannot read"), ("missing", "no such file")]
+
 
 def main(crates):
     cases, program = crates / "lister_cases", crates / "lister"
@@ -120,9 +123,9 @@ def main(crates):
     (cases / "data").mkdir(exist_ok=True)
     for name, data, _ in CASES:
         (cases / "data" / name).write_bytes(data)
-    names = [name for name, _, _ in CASES] + ["missing"]
+    names = [name for name, _, _ in CASES] + [name for name, _ in UNREAD]
     (cases / "args").write_text("".join(f"{name}\n" for name in names))
-    texts = [f"{name}:\n{lister(data)}" for name, data, _ in CASES] + ["missing:\nno such file\n"]
+    texts = [f"{name}:\n{lister(data)}" for name, data, _ in CASES] + [f"{name}:\n{said}\n" for name, said in UNREAD]
     (cases / "stdout").write_text("".join(texts))
     (program / "stdin").write_bytes(run_of_the_paper())
     (program / "stdout").write_text(PAPER)

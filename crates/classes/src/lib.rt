@@ -1,7 +1,8 @@
 //! A reader that walks the classes of one scan in order: thin functions over the covered lookup on slice and number.
 ghost use mathlib.Core.Path.{_≡_};
+ghost use Rattle.lent.specs.Part.{bytesOn};
 ghost use Rattle.paper.specs.Refusals.{spanSays};
-ghost use Rattle.paper.specs.Scan.{classOf, partOf};
+ghost use Rattle.paper.specs.Scan.{classOf, partOf, spanPlace};
 ghost use Rattle.classes.specs.Walk.{nextOf};
 use paper::answer::Span;
 use scan::preamble;
@@ -27,7 +28,8 @@ pub fn here<'a>(r: Reader<'a>) -> Span
 
 // The bytes of that class.
 pub fn bytes<'a>(r: Reader<'a>) -> &'a [u8]
-    ensures { λ b. ⌜ now b ≡ partOf (now (r .entry .scan)) (classOf (now (r .entry .scan)) (r .entry .number)) ⌝ }
+    ensures bytes { λ b. ⌜ now b ≡ partOf (now (r .entry .scan)) (classOf (now (r .entry .scan)) (r .entry .number)) ⌝ }
+    ensures place { λ b. ⌜ b .ptr ≡ bytesOn (spanPlace (now (r .entry .scan)) (classOf (now (r .entry .scan)) (r .entry .number))) (r .entry .scan .ptr) ⌝ }
 {
     scan::class_part(r.scan, r.number)
 }

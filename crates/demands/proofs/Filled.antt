@@ -5,11 +5,13 @@ use mathlib.Core.Bool.{true}
 use mathlib.Core.List.{List, []}
 use mathlib.Core.Logic.{_≢_}
 use native.Mathlib.Omega.{arith}
-use native.Mathlib.Nat.{le-div-iff-mul-le, div-lt-iff-lt-mul, mul-le-mul-right}
-use lib.ListN.{length}
+use native.Mathlib.Nat.{zero-add, le-div-iff-mul-le, div-lt-iff-lt-mul, mul-le-mul-right}
+use lib.ListN.{length, getD, List·getD-eq-default}
 use lib.Ieee.{ofBits}
 use Rattle.lent.specs.Number.{number, value, int16}
 use Rattle.lent.specs.Lists.{table, every, those}
+use Rattle.lent.specs.Write.{write, pad}
+use Rattle.lent.proofs.Writes.{length-pad, pad-at, write-in, write-after}
 use Rattle.whole.specs.Number.{exactly, wholeFloat, wholeOf}
 use Rattle.whole.specs.Length.{lengthOf, isWhole, sizeOf}
 use Rattle.paper.specs.declared.sizes.Sizes.{Sizes}
@@ -18,16 +20,19 @@ use Rattle.paper.specs.declared.answer.Ruled.the-variants.{Keeps}
 use Rattle.paper.specs.declared.answer.Taken.the-variants.{Accepted}
 use Rattle.paper.specs.declared.job.Begun.{Begun}
 use Rattle.paper.specs.declared.job.Step.the-variants.{Saved}
-use Rattle.paper.specs.Sizes.{sizesOf, capacityOf, roomOf}
+use Rattle.paper.specs.Sizes.{sizesOf, bootBytes, capacityOf, roomOf}
 use Rattle.paper.specs.Index.{runOf, slotsOf, openOf, Sound}
 use Rattle.paper.specs.Scan.{classesOf, startsOf, rule1, rule2, rule3, rule4, rule5, rule6, rising, headlen, datalen, ruledOf}
 use Rattle.paper.specs.Store.{blankSizes, blankOf, blankFile, recordsFor, freePlace}
+use Rattle.paper.specs.Look.{InIndex}
+use Rattle.paper.proofs.Sizing.{head-long}
 use Rattle.paper.proofs.Opening.{sound-open}
-use Rattle.paper.proofs.Begins.{InIndex, SaveTaken, taken-save}
+use Rattle.paper.proofs.Encoding.{length-boot}
+use Rattle.paper.proofs.Begins.{SaveTaken, taken-save}
 use Rattle.paper.proofs.Blank.{blank-facts, facts-blank, blank-file, blank-sound, blank-length, first-place}
 use Rattle.demands.specs.History.{save, takes, isAccepted, slotOf, stateAfter, answerAfter}
 use Rattle.demands.specs.Truth.{ReadsBack}
-use Rattle.demands.specs.NotEmpty.{Blanks, BlankOpens, leastScan, Kept, BlankKeeps}
+use Rattle.demands.specs.NotEmpty.{Blanks, BlankOpens, BlankWrites, leastScan, Kept, BlankKeeps}
 use Rattle.demands.proofs.Survived.{confirms-each}
 use Rattle.demands.proofs.True.{run-reads}
 
@@ -61,6 +66,24 @@ one-record z h =
     let low : 1 ≤ x / z .l = le-div-iff-mul-le l₁ .1 (omega (arith, scan-long)) in
     let high : x / z .l < 2 = div-lt-iff-lt-mul l₁ .1 (omega (arith, scan-long)) in
     omega arith
+
+-- the bytes of an accepted blank
+pub blank-writes : BlankWrites
+blank-writes f n l m e =
+    let h = blank-facts f n l m e in
+    let z : Sizes = blankSizes n l m in
+    let bs : List ℕ = pad (n * l) (bootBytes z) in
+    let b = length-boot z in
+    let len : length bs ≡ n * l = length-pad (n * l) (bootBytes z) (omega (arith, head-long z (h .shape))) in
+    let g = blank-file f n l m h in
+    record {
+      cleared = λ i a k.
+          rw g
+          (ap (λ (x : ℕ). getD (write f 0 bs) x 0) (sym (zero-add i)) ∙ write-in f 0 bs (omega arith) i (omega arith)
+          ∙ pad-at (n * l) (bootBytes z) i ∙ List·getD-eq-default (bootBytes z) 0 (omega arith));
+      beyond = λ i a. rw g (write-after f 0 bs (omega arith) i (omega arith));
+      as-long = rw g (blank-length f n l m h);
+    }
 
 module _ (f : List ℕ) (n l m : ℕ) (e : blankOf f n l m ≡ Accepted) (room : (n + 1) * l ≤ length f) where
   abbrev z : Sizes

@@ -1,9 +1,13 @@
 pub mod Start
 pub mod Histories
 pub mod Survived
+pub mod Staying
 pub mod Ordered
 pub mod Refusing
+pub mod Beginning
 pub mod True
+pub mod Reading
+pub mod Fields
 pub mod Telling
 pub mod Unchanged
 pub mod Filled

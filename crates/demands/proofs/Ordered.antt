@@ -1,64 +1,141 @@
--- Each refusal is given only under its condition, and in order: checks in a row against the conditions of the table.
-use Prim.Native.Nat.{ℕ, _-_, _≤_, _<_}
-use mathlib.Core.Path.{_≡_, refl, sym, ap}
-use mathlib.Core.Bool.{Bool, true, false, not}
+-- Checks in a row against a row of facts: the check that fires is the first fact that does not hold, and none fires where all hold.
+use Prim.Native.Nat.{ℕ, _+_, _-_, _≤_, _<_}
+use mathlib.Core.Path.{_≡_, refl, sym, _∙_, ap}
+use mathlib.Core.Bool.{Bool, true, false}
 use mathlib.Core.List.{List, [], _∷_, _++_}
 use native.Mathlib.Omega.{arith}
-use borrow.Author.Tests.{ltb-true, ltb-false, eqb-true, eqb-false, lt-ltb, eq-eqb, ne-eqb, not-true}
+use borrow.Author.Tests.{ltb-true, ltb-false, eqb-true, eqb-false, lt-ltb, not-true, not-false}
 use lib.Dec.{ltb}
-use Rattle.lent.specs.Checks.{Check, check, clear, fires, fired}
+use lib.ListN.{length}
+use Rattle.lent.specs.Checks.{Check, check, Fired, clear, fires, fired, answer, judge}
 use Rattle.lent.specs.Least.{least}
-use Rattle.lent.proofs.Lists.{true≢false, not-so, is-so, all-true}
-use Rattle.lent.proofs.Leasts.{lowest-least, none-least, test-none}
-use Rattle.lent.proofs.Checks.{clear≢fires, fires-same, all-clear, judge-clear}
+use Rattle.lent.proofs.Lists.{true≢false, not-so, is-so}
+use Rattle.lent.proofs.Leasts.{lowest-least, least-lowest, none-least, none-test}
+use Rattle.lent.proofs.Checks.{clear≢fires, fires-same, fires-here, cons-clear}
 use Rattle.paper.specs.declared.sizes.Sizes.{Sizes}
 use Rattle.paper.specs.declared.sizes.Run.{Run}
 use Rattle.paper.specs.declared.refusal.Refusal.{Refusal}
-use Rattle.paper.specs.declared.answer.Opened.the-variants as opened
-use Rattle.paper.specs.declared.answer.Opened.the-variants.{Opens}
-use Rattle.paper.specs.Sizes.{sizesOf, capacityOf, bootChecks}
-use Rattle.paper.specs.Index.{runOf, Full, shares, sharer, badAt, aboveTests, aboveAt, sharedAt, lowest, indexChecks, openChecks, bootOf, indexOf, Lies, Laid, Booted, Sound}
-use Rattle.paper.proofs.Opening.{range-facts, facts-range, good-lies, lies-good, above-facts, shared-facts, shares-common, common-shares, share-facts, full-facts, boot-sound, index-laid}
-use Rattle.demands.specs.Causes.{One, given, passed, Least, named, none, Nothing, Shared, IndexOrder, OpenOrder}
+use Rattle.paper.specs.Refusals.{Says, refuses}
+use Rattle.paper.specs.Sizes.{sizesOf, capacityOf, bytesOf}
+use Rattle.paper.specs.Index.{runOf, shares, sharer, badAt, aboveAt, sharedAt, lowest, indexChecks, openChecks, Lies, Laid, Sound}
+use Rattle.paper.proofs.Opening.{range-facts, facts-range, good-lies, lies-good, above-facts, facts-above, shared-facts, shares-common, common-shares, share-facts}
+use Rattle.paper.proofs.Answers.{refusal-only, number-some}
+use Rattle.demands.specs.Causes.{Row, end, asks, asks-each, only-if, amiss, passed, named, none, Given, Met, Shared, IndexRow, OpenRow}
+use Rattle.demands.specs.Truth.{Told}
 
--- whichever check fires, it is given in this order
-pub record Meets (cs : List (Check Refusal)) (order : Refusal → Type 0) : Type 0 where
-  pub gives : (r : Refusal) → fired cs ≡ fires r → order r
+-- the checks say what the row says
+pub record Meets (cs : List (Check Refusal)) (row : Row) : Type 0 where
+  pub fires-so : (r : Refusal) → fired cs ≡ fires r → Given row r
+  pub so-fires : (r : Refusal) → Given row r → fired cs ≡ fires r
+  pub clear-so : fired cs ≡ clear → Met row
+  pub so-clear : Met row → fired cs ≡ clear
 
--- ---- one check, one condition
+-- ---- one check, one fact
 
-pub one : {t : Bool} {q : Refusal} {cs : List (Check Refusal)} {P : Type 0} {rest : Refusal → Type 0} → (t ≡ true → P) → (P → t ≡ true)
-    → (t ≡ false → Meets cs rest) → Meets (check t q ∷ cs) (One P q rest)
-one {t} {q} {cs} {P} {rest} to from k = record { gives = λ r. go r t refl }
+pub nothing : Meets [] end
+nothing = record { fires-so = λ r e. clear≢fires clear r refl e; so-fires = λ r h. absurd h; clear-so = λ e. tt; so-clear = λ h. refl }
+
+-- the test fires where the fact does not hold; what follows may lean on the fact
+pub one : {t : Bool} {q : Refusal} {cs : List (Check Refusal)} {Good : Type 0} {row : Row} → (t ≡ true → Good → ⊥) → (t ≡ false → Good)
+    → (Good → Meets cs row) → Meets (check t q ∷ cs) (asks Good q row)
+one {t} {q} {cs} {Good} {row} bad good k =
+    record {
+      fires-so = λ r. fires-go r t refl;
+      so-fires = so-go;
+      clear-so = clear-go t refl;
+      so-clear = λ h. cons-clear t q cs (quiet (h .0)) (k (h .0) .so-clear (h .1));
+    }
   where
-    go : (r : Refusal) (b : Bool) → t ≡ b → fired (check b q ∷ cs) ≡ fires r → One P q rest r
-    go r true h e = given (to h) (sym (fires-same (fires q) q r refl e))
-    go r false h e = passed (λ x. true≢false (from x) h) (k h .gives r e)
+    quiet : Good → t ≡ false
+    quiet g = not-so (λ e. bad e g)
 
--- a check of the lowest slot
-pub lowest-one : {q : ℕ → Refusal} {cs : List (Check Refusal)} {P : ℕ → Type 0} {rest : Refusal → Type 0} (p : ℕ → Bool) (n : ℕ)
-    → ((s : ℕ) → 1 ≤ s → s ≤ n → p s ≡ true → P s) → ((s : ℕ) → 1 ≤ s → s ≤ n → P s → p s ≡ true)
-    → (ltb 0 (least p n) ≡ false → Meets cs rest) → Meets (lowest p n q ∷ cs) (Least P n q rest)
-lowest-one {q} {cs} {P} {rest} p n to from k = record { gives = λ r. go r (ltb 0 (least p n)) refl }
+    fires-go : (r : Refusal) (b : Bool) → t ≡ b → fired (check b q ∷ cs) ≡ fires r → Given (asks Good q row) r
+    fires-go r true h e = amiss (bad h) (sym (fires-same (fires q) q r refl e))
+    fires-go r false h e = passed (good h) (k (good h) .fires-so r e)
+
+    so-go : (r : Refusal) → Given (asks Good q row) r → fired (check t q ∷ cs) ≡ fires r
+    so-go r (amiss n e) = fires-here t q cs (is-so (λ h. n (good h))) ∙ ap fires (sym e)
+    so-go r (passed g x) = rw (quiet g) (k g .so-fires r x)
+
+    clear-go : (b : Bool) → t ≡ b → fired (check b q ∷ cs) ≡ clear → Met (asks Good q row)
+    clear-go true h e = absurd (clear≢fires (fires q) q e refl)
+    clear-go false h e = (good h, k (good h) .clear-so e)
+
+-- a test of each number from 1 to n
+pub each : {q : ℕ → Refusal} {cs : List (Check Refusal)} {Good : ℕ → Type 0} {row : Row} (p : ℕ → Bool) (n : ℕ)
+    → ((s : ℕ) → 1 ≤ s → s ≤ n → p s ≡ true → Good s → ⊥) → ((s : ℕ) → 1 ≤ s → s ≤ n → p s ≡ false → Good s)
+    → (((s : ℕ) → 1 ≤ s → s ≤ n → Good s) → Meets cs row) → Meets (lowest p n q ∷ cs) (asks-each Good n q row)
+each {q} {cs} {Good} {row} p n bad good k =
+    record {
+      fires-so = λ r. fires-go r (ltb 0 (least p n)) refl;
+      so-fires = so-go;
+      clear-so = clear-go (ltb 0 (least p n)) refl;
+      so-clear = λ h. cons-clear (ltb 0 (least p n)) (q (least p n)) cs (quiet (h .0)) (k (h .0) .so-clear (h .1));
+    }
   where
-    go : (r : Refusal) (t : Bool) → ltb 0 (least p n) ≡ t → fired (check t (q (least p n)) ∷ cs) ≡ fires r → Least P n q rest r
-    go r true h e =
+    quiet : ((s : ℕ) → 1 ≤ s → s ≤ n → Good s) → ltb 0 (least p n) ≡ false
+    quiet g = none-test p n (λ s a b e. bad s a b e (g s a b))
+
+    all-good : ltb 0 (least p n) ≡ false → (s : ℕ) → 1 ≤ s → s ≤ n → Good s
+    all-good h s a b = good s a b (none-least {p = p} {n = n} (omega (arith, ltb-false 0 (least p n) h)) .none s a b)
+
+    fires-go : (r : Refusal) (t : Bool) → ltb 0 (least p n) ≡ t → fired (check t (q (least p n)) ∷ cs) ≡ fires r → Given (asks-each Good n q row) r
+    fires-go r true h e =
         let l = lowest-least {p = p} {n = n} refl (ltb-true 0 (least p n) h) in
         named (least p n)
         (record {
           low = l .low;
           high = l .high;
-          holds = to (least p n) (l .low) (l .high) (l .takes);
-          below = λ t a b x. true≢false (from t a (omega (arith, l .high)) x) (l .below t a b);
+          amiss = bad (least p n) (l .low) (l .high) (l .takes);
+          below = λ t a b. good t a (omega (arith, l .high)) (l .below t a b);
         })
         (sym (fires-same (fires (q (least p n))) (q (least p n)) r refl e))
-    go r false h e =
-        let no = none-least {p = p} {n = n} (omega (arith, ltb-false 0 (least p n) h)) .none in
-        none (λ s a b x. true≢false (from s a b x) (no s a b)) (k h .gives r e)
+    fires-go r false h e = none (all-good h) (k (all-good h) .fires-so r e)
 
--- no check is left
-pub nothing : Meets [] Nothing
-nothing = record { gives = λ r e. clear≢fires clear r refl e }
+    so-go : (r : Refusal) → Given (asks-each Good n q row) r → fired (lowest p n q ∷ cs) ≡ fires r
+    so-go r (named s l e) =
+        let m : least p n ≡ s =
+        least-lowest
+        (record {
+          low = l .low;
+          high = l .high;
+          takes = is-so (λ h. l .amiss (good s (l .low) (l .high) h));
+          below = λ t a b. not-so (λ h. bad t a (omega (arith, l .high)) h (l .below t a b));
+        }) in
+        fires-here (ltb 0 (least p n)) (q (least p n)) cs (lt-ltb 0 (least p n) (omega (arith, l .low))) ∙ ap (λ (x : ℕ). fires (q x)) m ∙ ap fires (sym e)
+    so-go r (none g x) = rw (quiet g) (k g .so-fires r x)
+
+    clear-go : (t : Bool) → ltb 0 (least p n) ≡ t → fired (check t (q (least p n)) ∷ cs) ≡ clear → Met (asks-each Good n q row)
+    clear-go true h e = absurd (clear≢fires (fires (q (least p n))) (q (least p n)) e refl)
+    clear-go false h e = (all-good h, k (all-good h) .clear-so e)
+
+-- what is asked for only where P holds: where it does, and where it does not
+pub asked-so : {P : Type 0} {cs : List (Check Refusal)} {row : Row} → P → Meets cs row → Meets cs (only-if P row)
+asked-so p m = record { fires-so = λ r e. (p, m .fires-so r e); so-fires = λ r h. m .so-fires r (h .1); clear-so = λ e h. m .clear-so e; so-clear = λ h. m .so-clear (h p) }
+
+pub not-asked : {P : Type 0} {row : Row} → (P → ⊥) → Meets [] (only-if P row)
+not-asked n =
+    record { fires-so = λ r e. absurd (clear≢fires clear r refl e); so-fires = λ r h. absurd (n (h .0)); clear-so = λ e h. absurd (n h); so-clear = λ h. refl }
+
+-- ---- what a call that judges by such checks says
+
+pub told : {A : Type 0} (says : A → Says) (refuse : Refusal → A) (a : A) {cs : List (Check Refusal)} {row : Row} → ((r : Refusal) → says (refuse r) ≡ refuses r)
+    → says a .number ≡ 0 → Meets cs row → Told (says (judge refuse cs a)) row
+told says refuse a {cs} {row} denies grants m =
+    record {
+      refused-so = λ r e. m .fires-so r (which r (fired cs) e);
+      so-refused = λ r h. ap (λ (x : Fired Refusal). says (answer refuse a x)) (m .so-fires r h) ∙ denies r;
+      accepted-so = λ e. m .clear-so (quiet (fired cs) e);
+      so-accepted = λ h. ap (λ (x : Fired Refusal). says (answer refuse a x) .number) (m .so-clear h) ∙ grants;
+    }
+  where
+    which : (r : Refusal) (x : Fired Refusal) → says (answer refuse a x) ≡ refuses r → x ≡ fires r
+    which r clear e = absurd (number-some r (sym (ap (λ (s : Says). s .number) e) ∙ grants))
+    which r (fires q) e = ap fires (refusal-only q r (sym (denies q) ∙ e))
+
+    quiet : (x : Fired Refusal) → says (answer refuse a x) .number ≡ 0 → x ≡ clear
+    quiet clear e = refl
+    quiet (fires r) e = absurd (number-some r (sym (ap (λ (s : Says). s .number) (denies r)) ∙ e))
 
 -- ---- 6 to 8
 
@@ -81,49 +158,43 @@ module _ (z : Sizes) (run : ℕ → Run) where
         there = (c .from-t, c .to-t);
       }
 
-  is-shared : (s : ℕ) → Shared run s → sharedAt run s ≡ true
-  is-shared s h =
-      is-so (λ e. shared-facts run s e (h .other) (h .low) (h .smaller) (common-shares (run s) (run (h .other)) (h .at) (h .counted) (h .here .0) (h .here .1) (h .there .0) (h .there .1)))
+  not-shared : (s : ℕ) → sharedAt run s ≡ false → Shared run s → ⊥
+  not-shared s e h =
+      shared-facts run s e (h .other) (h .low) (h .smaller) (common-shares (run s) (run (h .other)) (h .at) (h .counted) (h .here .0) (h .here .1) (h .there .0) (h .there .1))
 
-  above-is : (s : ℕ) → aboveAt z run s ≡ true → (z .u < s) × Full (run s)
-  unfolding aboveAt
-  above-is s e =
-      let t = all-true (aboveTests z run s) e in
-      (ltb-true _ _ (t .0), full-facts (run s) (not-true _ (t .1 .0)))
-
-  laid : fired (indexChecks z run) ≡ clear → Laid z run
-  unfolding indexOf
-  laid e = index-laid (judge-clear opened.Refused (indexChecks z run) (Opens z) e)
+  -- what the facts of 6 to 8 come to
+  laid : ((s : ℕ) → 1 ≤ s → s ≤ z .u → Lies z (run s)) → ((s : ℕ) → 1 ≤ s → s ≤ capacityOf z → z .u < s → run s .first + run s .last ≡ 0)
+      → ((s : ℕ) → 1 ≤ s → s ≤ z .u → Shared run s → ⊥) → Laid z run
+  laid lies over alone =
+      record {
+        inside = lies;
+        above = λ s a b. over s (omega arith) b a;
+        apart = λ s t r a b c d e f g h.
+            alone t (omega arith) c (record { other = s; low = a; smaller = b; at = r; counted = omega arith; here = (g, h); there = (e, f) });
+      }
 
   -- what follows may lean on the index as laid
-  pub index-order : {ds : List (Check Refusal)} {rest : Refusal → Type 0} → (Laid z run → Meets ds rest) → Meets (indexChecks z run ++ ds) (IndexOrder z run rest)
-  index-order k =
-      lowest-one (badAt z run) (z .u) (λ s a b t h. true≢false t (lies-good z run s h)) (λ s a b h. is-so (λ e. h (good-lies z run s e)))
-      (λ good.
-      lowest-one (aboveAt z run) (capacityOf z) (λ s a b t. above-is s t) (λ s a b h. is-so (λ e. omega (arith, above-facts z run s e (h .0), h .1)))
+  pub index-row : {ds : List (Check Refusal)} {row : Row} → (Laid z run → Meets ds row) → Meets (indexChecks z run ++ ds) (IndexRow z run row)
+  index-row k =
+      each (badAt z run) (z .u) (λ s a b t h. true≢false t (lies-good z run s h)) (λ s a b. good-lies z run s)
+      (λ lies.
+      each (aboveAt z run) (capacityOf z) (λ s a b t h. true≢false t (facts-above z run s h)) (λ s a b. above-facts z run s)
       (λ over.
-      lowest-one (sharedAt run) (z .u)
-      (λ s a b t. shared-is (λ s a b. good-lies z run s (not-so (test-none (badAt z run) (z .u) good s a b))) s a b t) (λ s a b h. is-shared s h)
-      (λ no. k (laid (all-clear (indexChecks z run) (good, (over, (no, tt))))))))
+      each (sharedAt run) (z .u) (λ s a b t h. h (shared-is lies s a b t)) (λ s a b. not-shared s) (λ alone. k (laid lies over alone))))
 
 -- ---- 1 to 8
 
-booted : (f : List ℕ) → fired (bootChecks f) ≡ clear → Booted f (sizesOf f)
-unfolding bootOf
-booted f e = boot-sound (judge-clear opened.Refused (bootChecks f) (Opens (sizesOf f)) e)
-
-pub open-order : (f : List ℕ) {ds : List (Check Refusal)} {rest : Refusal → Type 0} → (Sound f (sizesOf f) → Meets ds rest)
-    → Meets (openChecks f ++ ds) (OpenOrder f rest)
-open-order f k =
-    one (ltb-true _ _) (lt-ltb _ _)
+pub open-row : (f : List ℕ) {ds : List (Check Refusal)} {row : Row} → (Sound f (sizesOf f) → Meets ds row) → Meets (openChecks f ++ ds) (OpenRow f row)
+open-row f k =
+    one (λ t h. omega (arith, ltb-true (length f) 512 t)) (λ t. omega (arith, ltb-false (length f) 512 t))
     (λ long.
-    one (eqb-true _ _) (eq-eqb _ _)
+    one (λ t h. h (eqb-true _ _ t)) (λ t. eqb-false _ _ t)
     (λ old.
-    one (λ t. eqb-false _ _ (not-true _ t)) (λ h. ap not (ne-eqb _ _ h))
+    one (λ t. eqb-false _ _ (not-true _ t)) (λ t. eqb-true _ _ (not-false _ t))
     (λ known.
-    one (λ t h. true≢false (facts-range (sizesOf f) h) (not-true _ t)) (λ h. ap not (not-so (λ t. h (range-facts (sizesOf f) t))))
+    one (λ t h. true≢false (facts-range (sizesOf f) h) (not-true _ t)) (λ t. range-facts (sizesOf f) (not-false _ t))
     (λ range.
-    one (ltb-true _ _) (lt-ltb _ _)
+    one (λ t h. omega (arith, ltb-true (length f) (bytesOf (sizesOf f)) t)) (λ t. omega (arith, ltb-false (length f) (bytesOf (sizesOf f)) t))
     (λ held.
-    index-order (sizesOf f) (runOf f (sizesOf f))
-    (λ laid. k (record { booted = booted f (all-clear (bootChecks f) (long, (old, (known, (range, (held, tt)))))); laid = laid })))))))
+    index-row (sizesOf f) (runOf f (sizesOf f))
+    (λ laid. k (record { booted = record { reads = refl; long = long; version = known; ranged = range; held = held }; laid = laid })))))))

@@ -1,5 +1,5 @@
--- Demand 2, of the refusals: every call gives each only under its condition, and in order.
-use Prim.Native.Nat.{ℕ, _+_, _≤_, _<_, max}
+-- Demand 2, of the refusals: every call gives each exactly under its condition and in order, and is accepted exactly where none is given.
+use Prim.Native.Nat.{ℕ, _+_, _*_, _≤_, max}
 use mathlib.Core.Path.{_≡_, refl, sym, _∙_, ap, subst}
 use mathlib.Core.Bool.{Bool, true, false, not, cond}
 use mathlib.Core.List.{List, [], _∷_, _++_}
@@ -7,14 +7,14 @@ use native.Mathlib.Omega.{arith}
 use borrow.Author.Tests.{ltb-true, ltb-false, leb-true, eqb-true, eqb-false, lt-ltb, le-leb, not-true, not-false}
 use lib.Dec.{ltb, leb, eqb}
 use lib.ListN.{length}
-use Rattle.lent.specs.Checks.{Check, check, Fired, clear, fires, fired, answer, judge}
+use Rattle.lent.specs.Checks.{Check, check, answer, judge}
 use Rattle.lent.specs.Lists.{all}
-use Rattle.lent.proofs.Lists.{is-so, true≢false, all-true, true-all}
+use Rattle.lent.proofs.Lists.{true≢false, all-true, true-all}
 use Rattle.lent.proofs.Leasts.{lowest-least, none-least}
-use Rattle.lent.proofs.Checks.{judge-refused, fires-here, fires-same, fires-append}
+use Rattle.lent.proofs.Checks.{judge-append, judge-fires}
 use Rattle.paper.specs.declared.sizes.Sizes.{Sizes}
 use Rattle.paper.specs.declared.refusal.Refusal.{Refusal}
-use Rattle.paper.specs.declared.refusal.Refusal.the-variants.{NoSuchSlot, NoEmptySlot, BadScan, BadBlank, Disagrees, Differs}
+use Rattle.paper.specs.declared.refusal.Refusal.the-variants.{NoSuchSlot, NoEmptySlot, BadScan, Disagrees, Differs}
 use Rattle.paper.specs.declared.answer.Opened.{Opened}
 use Rattle.paper.specs.declared.answer.Opened.the-variants as opened
 use Rattle.paper.specs.declared.answer.Listed.the-variants as listed
@@ -22,114 +22,62 @@ use Rattle.paper.specs.declared.answer.Ruled.{Ruled}
 use Rattle.paper.specs.declared.answer.Ruled.the-variants.{Keeps, Breaks}
 use Rattle.paper.specs.declared.answer.Span.{Span}
 use Rattle.paper.specs.declared.answer.Span.the-variants as span
-use Rattle.paper.specs.declared.answer.Taken.{Taken}
 use Rattle.paper.specs.declared.answer.Taken.the-variants as taken
 use Rattle.paper.specs.declared.entry.Found.{Found}
 use Rattle.paper.specs.declared.job.Job.{Job}
 use Rattle.paper.specs.declared.job.Begun.{Begun}
+use Rattle.paper.specs.declared.job.Step.{Step}
 use Rattle.paper.specs.declared.job.Step.the-variants as step
+use Rattle.paper.specs.Refusals.{openedSays, listedSays, spanSays, takenSays, stepSays}
 use Rattle.paper.specs.Sizes.{sizesOf, capacityOf, startOf, roomOf}
-use Rattle.paper.specs.Index.{runOf, empty, Full, shownOf, openChecks, openOf, Lies, Sound}
-use Rattle.paper.specs.Scan.{startsOf, classesOf, classIn, ruledOf, ofRuled, classOf, dataOf}
-use Rattle.paper.specs.Look.{listOf, listChecks, listedOf, noSlot, slotChecks, foundOf, showOf, readIn, readOf}
-use Rattle.paper.specs.Store.{blankSizes, blankTests, blankChecks, blankOf, recordsFor, freeAt, freePlace, emptySlot, refused, accepted, placeFor, saveJob, clearJob, keepSlot, reasonOf, scanChecks, saveOf, keepOf, clearOf, writesOf}
-use Rattle.paper.specs.Step.{agrees, hasLeft, writeAt, stands, confirmed, confirmOf, stepAnswer}
-use Rattle.paper.proofs.Opening.{shaped-facts, facts-shaped, full-facts, facts-full, open-fires, open-reads, then-refused, then-opens}
+use Rattle.paper.specs.Index.{runOf, empty, shownOf, openChecks, openOf, Lies, Sound}
+use Rattle.paper.specs.Scan.{startsOf, classesOf, headlen, datalen, classIn, ruledOf, ofRuled, classOf, dataOf, Rule}
+use Rattle.paper.specs.Look.{listOf, listedOf, noSlot, slotChecks, foundOf, showOf, readOf, InIndex}
+use Rattle.paper.specs.Store.{blankSizes, blankTests, blankChecks, blankOf, recordsFor, freeAt, freePlace, emptySlot, refused, placeFor, keepSlot, reasonOf, scanChecks, saveOf, keepOf, clearOf, countOf, writesOf}
+use Rattle.paper.specs.Step.{agrees, hasLeft, wroteOf, stands, confirmed, confirmOf, stepAnswer, Agreeing, Standing}
+use Rattle.paper.proofs.Opening.{shaped-facts, facts-shaped, empty-facts, facts-empty, full-facts, facts-full, then-refused, then-opens, open-reads}
 use Rattle.paper.proofs.Rules.{keeps-lengths}
-use Rattle.paper.proofs.Reasons.{ruleOf, reason-least, no-reason, Broken, broken as broken-rule}
+use Rattle.paper.proofs.Reasons.{ruleOf, rule-facts, facts-rule, reason-least, some-reason}
 use Rattle.paper.proofs.Writes.{length-writes, some-record}
-use Rattle.paper.proofs.Agreement.{agreed, agreeing, Standing, stood, standing}
+use Rattle.paper.proofs.Agreement.{agreed, agreeing, stood, standing}
 use Rattle.paper.proofs.Free.{FreeAt, facts-free, place-free, free-nobody}
-use Rattle.paper.proofs.Blank.{Blankable}
-use Rattle.paper.proofs.Begins.{InIndex, slot-facts, facts-slot}
-use Rattle.demands.specs.Causes.{One, given, passed, Rules, broken, kept, Nothing, OpenOrder, SlotOrder, FreeRun, NoPlace, ScanOrder, StepOrder}
-use Rattle.demands.specs.Truth.{Refusals}
-use Rattle.demands.proofs.Ordered.{Meets, one, nothing, open-order}
-
--- ---- which check fired
-
--- from an answer that says Taken
-module _ {A : Type 0} (refuse : Refusal → A) (says : A → Taken) (a : A) (cs : List (Check Refusal)) where
-  pub taken-fires : ((q : Refusal) → says (refuse q) ≡ taken.Refused q) → says a ≡ taken.Accepted → (r : Refusal) → says (judge refuse cs a) ≡ taken.Refused r → fired cs ≡ fires r
-  taken-fires p q r e = go (fired cs) e
-    where
-      go : (x : Fired Refusal) → says (answer refuse a x) ≡ taken.Refused r → x ≡ fires r
-      go clear e = let z : _≡_ {A = ℕ} 0 1 = cc in absurd (omega arith)
-      go (fires s) e = let h = p s in ap fires (same s r (sym h ∙ e))
-        where
-          same : (s r : Refusal) → taken.Refused s ≡ taken.Refused r → s ≡ r
-          same s r e = cc
-
-span-same : (q r : Refusal) → span.Refused q ≡ span.Refused r → q ≡ r
-span-same q r e = cc
-
-span-never : (a b : ℕ) (r : Refusal) → span.Part a b ≡ span.Refused r → ⊥
-span-never a b r e = let z : _≡_ {A = ℕ} 0 1 = cc in omega arith
-
-span-fires : (cs : List (Check Refusal)) (a b : ℕ) (r : Refusal) → judge span.Refused cs (span.Part a b) ≡ span.Refused r → fired cs ≡ fires r
-span-fires cs a b r e = judge-refused span.Refused cs (span.Part a b) r span-same (span-never a b r) e
-
-part-never : (t : Bool) (a b c d : ℕ) (r : Refusal) → cond t (span.Part a b) (span.Part c d) ≡ span.Refused r → ⊥
-part-never true a b c d r e = span-never a b r e
-part-never false a b c d r e = span-never c d r e
-
--- a refusal after a list of checks is one more check
-last-fires : (cs : List (Check Refusal)) (q : Refusal) (t : Bool) → t ≡ true → (r : Refusal) → judge span.Refused cs (span.Refused q) ≡ span.Refused r
-    → fired (cs ++ (check t q ∷ [])) ≡ fires r
-last-fires [] q t h r e = fires-here t q [] h ∙ ap fires (span-same q r e)
-last-fires (check true p ∷ cs) q t h r e = ap fires (span-same p r e)
-last-fires (check false p ∷ cs) q t h r e = last-fires cs q t h r e
-
-pub begun-fires : (cs : List (Check Refusal)) (j : Job) (r : Refusal) → judge refused cs (accepted j) .answer ≡ taken.Refused r → fired cs ≡ fires r
-begun-fires cs j r e = taken-fires refused (λ (b : Begun). b .answer) (accepted j) cs (λ q. refl) refl r e
-
-pub listed-fires : (cs : List (Check Refusal)) (n : ℕ) (r : Refusal) → judge listed.Refused cs (listed.Scans n) ≡ listed.Refused r → fired cs ≡ fires r
-listed-fires cs n r e = judge-refused listed.Refused cs (listed.Scans n) r listed-same listed-never e
-  where
-    listed-same : (q r : Refusal) → listed.Refused q ≡ listed.Refused r → q ≡ r
-    listed-same q r e = cc
-
-    listed-never : listed.Scans n ≡ listed.Refused r → ⊥
-    listed-never e = let z : _≡_ {A = ℕ} 0 1 = cc in omega arith
+use Rattle.paper.proofs.Begins.{slot-facts, facts-slot}
+use Rattle.demands.specs.Causes.{Row, end, asks, only-if, OpenRow, SlotRow, RuleRow, ReadRow, FreeRun, Place, ScanRow, Vacant, StepRow, BlankRow}
+use Rattle.demands.specs.Truth.{Told, RefusedExactly}
+use Rattle.demands.proofs.Ordered.{Meets, one, each, nothing, asked-so, not-asked, told, open-row}
 
 -- ---- 9, 10, 11, 13
 
-slot-one : (z : Sizes) (s : ℕ) {cs : List (Check Refusal)} {rest : Refusal → Type 0} → Meets cs rest
-    → Meets (noSlot z s ∷ cs) (One (InIndex z s → ⊥) NoSuchSlot rest)
-slot-one z s k = one (λ t h. true≢false t (facts-slot z s h)) (λ h. is-so (λ e. h (slot-facts z s e))) (λ e. k)
+slot-asks : (z : Sizes) (s : ℕ) {cs : List (Check Refusal)} {row : Row} → Meets cs row → Meets (noSlot z s ∷ cs) (asks (InIndex z s) NoSuchSlot row)
+slot-asks z s k = one (λ t h. true≢false t (facts-slot z s h)) (slot-facts z s) (λ h. k)
 
-slot-order : (f : List ℕ) (s : ℕ) {ds : List (Check Refusal)} {rest : Refusal → Type 0} → Meets ds rest → Meets (slotChecks f s ++ ds) (SlotOrder f s rest)
-slot-order f s k =
-    open-order f
-    (λ S.
-    slot-one (sizesOf f) s
-    (one (λ t h. true≢false t (facts-full (runOf f (sizesOf f) s) h)) (λ h. is-so (λ e. h (full-facts (runOf f (sizesOf f) s) e))) (λ e. k)))
+slot-row : (f : List ℕ) (s : ℕ) {ds : List (Check Refusal)} {row : Row} → Meets ds row → Meets (slotChecks f s ++ ds) (SlotRow f s row)
+slot-row f s k =
+    open-row f
+    (λ S. slot-asks (sizesOf f) s (one (λ t h. true≢false t (facts-full (runOf f (sizesOf f) s) h)) (full-facts (runOf f (sizesOf f) s)) (λ h. k)))
 
 -- the check of a scan's rules
 abbrev ruleCheck : List ℕ → Bool → Check Refusal
 ruleCheck scan saving = check (ltb 0 (reasonOf (ruledOf scan saving))) (BadScan (reasonOf (ruledOf scan saving)))
 
 module _ (scan : List ℕ) (saving : Bool) where
-  no-rule : reasonOf (ruledOf scan saving) ≡ 0 → (n : ℕ) → Broken scan saving n → ⊥
-  no-rule h n b =
-      let none = none-least {p = λ n. not (ruleOf scan saving n)} {n = 6} (sym (reason-least scan saving) ∙ h) .none in
-      true≢false (not-false _ (none n (b .low) (b .high))) (b .here)
+  rule-row : {cs : List (Check Refusal)} {row : Row} → (((n : ℕ) → 1 ≤ n → n ≤ 6 → Rule scan saving n) → Meets cs row)
+      → Meets (ruleCheck scan saving ∷ cs) (RuleRow scan saving row)
+  rule-row {cs} {row} k =
+      subst (λ (n : ℕ). Meets (check (ltb 0 n) (BadScan n) ∷ cs) (RuleRow scan saving row)) (sym (reason-least scan saving))
+      (each (λ n. not (ruleOf scan saving n)) 6 (λ n a b t h. true≢false (facts-rule scan saving n a b h) (not-true _ t))
+      (λ n a b t. rule-facts scan saving n (not-false _ t)) k)
 
-  rule-is : (x : Ruled) → ruledOf scan saving ≡ x → 0 < reasonOf x → Broken scan saving (reasonOf x)
-  rule-is (Keeps head rest) e h = absurd (omega arith)
-  rule-is (Breaks n) e h = broken-rule scan saving e
-
-  rules-one : {cs : List (Check Refusal)} {rest : Refusal → Type 0} → (reasonOf (ruledOf scan saving) ≡ 0 → Meets cs rest) → Meets (ruleCheck scan saving ∷ cs) (Rules scan saving rest)
-  rules-one {cs} {rest} k = record { gives = λ r. go r (ltb 0 n) refl }
+  -- what is asked of a scan, as checks
+  ruled-judge : (k : ℕ → ℕ → Span) → ofRuled k (ruledOf scan saving) ≡ judge span.Refused (ruleCheck scan saving ∷ []) (k (headlen scan) (datalen scan))
+  ruled-judge k = go (ruledOf scan saving) refl
     where
-      n : ℕ
-      n = reasonOf (ruledOf scan saving)
+      go : (x : Ruled) → ruledOf scan saving ≡ x
+          → ofRuled k x ≡ judge span.Refused (check (ltb 0 (reasonOf x)) (BadScan (reasonOf x)) ∷ []) (k (headlen scan) (datalen scan))
+      go (Keeps head rest) e = let l = keeps-lengths e in rw (l .head-is, l .rest-is) refl
+      go (Breaks n) e = rw (lt-ltb 0 n (some-reason scan saving e)) refl
 
-      go : (r : Refusal) (t : Bool) → ltb 0 n ≡ t → fired (check t (BadScan n) ∷ cs) ≡ fires r → Rules scan saving rest r
-      go r true h e = broken n (rule-is (ruledOf scan saving) refl (ltb-true 0 n h)) (sym (fires-same (fires (BadScan n)) (BadScan n) r refl e))
-      go r false h e = let z : n ≡ 0 = omega (arith, ltb-false 0 n h) in kept (no-rule z) (k z .gives r e)
-
--- 13: no place, in plain facts
+-- 13: a place, in plain facts
 module _ (f scan : List ℕ) (S : Sound f (sizesOf f)) (long : 256 ≤ length scan) where
   abbrev z : Sizes
   z = sizesOf f
@@ -140,7 +88,7 @@ module _ (f scan : List ℕ) (S : Sound f (sizesOf f)) (long : 256 ≤ length sc
   K₁ : 1 ≤ K
   K₁ = some-record (z .l) (length scan) (omega (arith, S .booted .ranged .shape .l-low)) (omega arith)
 
-  run-free : (r : ℕ) → FreeRun f z K r → FreeAt z (length f) (runOf f z) K r
+  pub run-free : (r : ℕ) → FreeRun f (sizesOf f) (recordsFor (sizesOf f) (length scan)) r → FreeAt (sizesOf f) (length f) (runOf f (sizesOf f)) (recordsFor (sizesOf f) (length scan)) r
   run-free r h =
       record {
         past = h .past;
@@ -152,146 +100,165 @@ module _ (f scan : List ℕ) (S : Sound f (sizesOf f)) (long : 256 ≤ length sc
             h .alone s (max r (runOf f z s .first)) a b (omega arith) (omega (arith, c .after)) (omega arith) (omega (arith, c .before));
       }
 
-  free-run : (r : ℕ) → FreeAt z (length f) (runOf f z) K r → FreeRun f z K r
+  pub free-run : (r : ℕ) → FreeAt (sizesOf f) (length f) (runOf f (sizesOf f)) (recordsFor (sizesOf f) (length scan)) r → FreeRun f (sizesOf f) (recordsFor (sizesOf f) (length scan)) r
   free-run r F =
       record { past = F .past; within = F .within; alone = λ s q a b. free-nobody F (S .laid) s q a (omega (arith, S .booted .ranged .used)) }
 
-  no-place : placeFor f (length scan) ≡ 0 → NoPlace f scan
+  no-place : placeFor f (length scan) ≡ 0 → Place f scan → ⊥
   unfolding freePlace
-  no-place e r h =
+  no-place e p =
       let k = K₁ in
-      let none = none-least {p = freeAt z (length f) (runOf f z) K} {n = roomOf z (length f)} e .none in
-      true≢false (facts-free z (length f) (runOf f z) K r (run-free r h)) (none r (omega (arith, h .past)) (omega (arith, h .within)))
+      let h = p .free in
+      let quiet = none-least {p = freeAt z (length f) (runOf f z) K} {n = roomOf z (length f)} e .none in
+      true≢false (facts-free z (length f) (runOf f z) K (p .at) (run-free (p .at) h)) (quiet (p .at) (omega (arith, h .past)) (omega (arith, h .within)))
 
-  some-place : (placeFor f (length scan) ≡ 0 → ⊥) → NoPlace f scan → ⊥
-  some-place ne h = h (placeFor f (length scan)) (free-run (placeFor f (length scan)) (place-free z (length f) (runOf f z) K ne))
+  some-place : (placeFor f (length scan) ≡ 0 → ⊥) → Place f scan
+  some-place ne = record { at = placeFor f (length scan); free = free-run (placeFor f (length scan)) (place-free z (length f) (runOf f z) K ne) }
 
-scan-order : (f scan : List ℕ) → Sound f (sizesOf f) → Meets (scanChecks f scan) (ScanOrder f scan)
-scan-order f scan S =
-    rules-one scan true
-    (λ e.
-    let long : 256 ≤ length scan = keeps-lengths (no-reason scan true e) .long in
-    one (λ t. no-place f scan S long (eqb-true _ _ t)) (λ h. is-so (λ q. some-place f scan S long (eqb-false _ _ q) h)) (λ q. nothing))
+scan-row : (f scan : List ℕ) → Sound f (sizesOf f) → Meets (scanChecks f scan) (ScanRow f scan)
+scan-row f scan S =
+    rule-row scan true
+    (λ h.
+    let long : 256 ≤ length scan = h 1 (omega arith) (omega arith) .0 in
+    one (λ t. no-place f scan S long (eqb-true _ _ t)) (λ t. some-place f scan S long (eqb-false _ _ t)) (λ h. nothing))
 
--- 12: every slot is full
+-- 12: an empty slot
 module _ (f : List ℕ) where
-  abbrev AllFull : Type 0
-  AllFull = (s : ℕ) → 1 ≤ s → s ≤ capacityOf (sizesOf f) → Full (runOf f (sizesOf f) s)
-
-  all-full : keepSlot f ≡ 0 → AllFull
+  no-vacant : keepSlot f ≡ 0 → Vacant f → ⊥
   unfolding emptySlot
-  all-full e s a b =
-      full-facts (runOf f (sizesOf f) s) (none-least {p = λ s. empty (runOf f (sizesOf f) s)} {n = capacityOf (sizesOf f)} e .none s a b)
+  no-vacant e v =
+      let quiet = none-least {p = λ s. empty (runOf f (sizesOf f) s)} {n = capacityOf (sizesOf f)} e .none in
+      true≢false (facts-empty (runOf f (sizesOf f) (v .slot)) (v .empty)) (quiet (v .slot) (v .slotted .low) (v .slotted .high))
 
-  some-empty : (keepSlot f ≡ 0 → ⊥) → AllFull → ⊥
+  some-vacant : (keepSlot f ≡ 0 → ⊥) → Vacant f
   unfolding emptySlot
-  some-empty ne h =
+  some-vacant ne =
       let l = lowest-least {p = λ s. empty (runOf f (sizesOf f) s)} {n = capacityOf (sizesOf f)} {k = keepSlot f} refl (omega arith) in
-      true≢false (l .takes) (facts-full (runOf f (sizesOf f) (keepSlot f)) (h (keepSlot f) (l .low) (l .high)))
+      record { slot = keepSlot f; slotted = record { low = l .low; high = l .high }; empty = empty-facts (runOf f (sizesOf f) (keepSlot f)) (l .takes) }
 
-  keep-one : {cs : List (Check Refusal)} {rest : Refusal → Type 0} → Meets cs rest → Meets (check (eqb (keepSlot f) 0) NoEmptySlot ∷ cs) (One AllFull NoEmptySlot rest)
-  keep-one k = one (λ t. all-full (eqb-true (keepSlot f) 0 t)) (λ h. is-so (λ e. some-empty (eqb-false (keepSlot f) 0 e) h)) (λ e. k)
+  keep-asks : {cs : List (Check Refusal)} {row : Row} → Meets cs row → Meets (check (eqb (keepSlot f) 0) NoEmptySlot ∷ cs) (asks (Vacant f) NoEmptySlot row)
+  keep-asks k = one (λ t. no-vacant (eqb-true (keepSlot f) 0 t)) (λ t. some-vacant (eqb-false (keepSlot f) 0 t)) (λ h. k)
 
 -- 16
-blank-order : (f : List ℕ) (z : Sizes) → Meets (blankChecks f z) (One (Blankable f z → ⊥) BadBlank Nothing)
-blank-order f z =
+blank-row : (f : List ℕ) (n l m : ℕ) → Meets (blankChecks f (blankSizes n l m)) (BlankRow f n l m)
+blank-row f n l m =
+    let z : Sizes = blankSizes n l m in
     one (λ t h. true≢false (true-all (blankTests (length f) z) (facts-shaped z (h .shape), (le-leb _ _ (h .fits), tt))) (not-true _ t))
-    (λ h.
-    is-so (λ e.
-    let t = all-true (blankTests (length f) z) (not-false _ e) in
-    h (record { shape = shaped-facts z (t .0); fits = leb-true _ _ (t .1 .0) })))
-    (λ e. nothing)
+    (λ t.
+    let a = all-true (blankTests (length f) z) (not-false _ t) in
+    record { shape = shaped-facts z (a .0); fits = leb-true _ _ (a .1 .0) })
+    (λ h. nothing)
+
+-- ---- a scan's classes and data
+
+ruled-told : (s : List ℕ) (k : ℕ → ℕ → Span) → ((a b : ℕ) → spanSays (k a b) .number ≡ 0) → Told (spanSays (ofRuled k (ruledOf s false))) (RuleRow s false end)
+ruled-told s k grants =
+    subst (λ (x : Span). Told (spanSays x) (RuleRow s false end)) (sym (ruled-judge s false k))
+    (told spanSays span.Refused (k (headlen s) (datalen s)) (λ r. refl) (grants (headlen s) (datalen s)) (rule-row s false (λ h. nothing)))
+
+part-says : (t : Bool) (a b c d : ℕ) → spanSays (cond t (span.Part a b) (span.Part c d)) .number ≡ 0
+part-says true a b c d = refl
+part-says false a b c d = refl
+
+class-says : (s : List ℕ) (number head : ℕ) → spanSays (classIn (startsOf s) (classesOf s) head number) .number ≡ 0
+unfolding classIn
+class-says s number head = part-says (all (leb 1 number ∷ leb number (classesOf s) ∷ [])) _ _ _ _
+
+-- a read: the slot's checks, then the rules
+read-told : (f : List ℕ) (s : ℕ) → Told (spanSays (readOf f s)) (ReadRow f s)
+unfolding readOf
+read-told f s =
+    let from : ℕ = startOf (sizesOf f) (runOf f (sizesOf f) s .first) in
+    let shown : List ℕ = shownOf f (sizesOf f) s in
+    let k : ℕ → ℕ → Span = λ head rest. span.Part from (from + (head + rest)) in
+    subst (λ (x : Span). Told (spanSays x) (ReadRow f s))
+    (judge-append span.Refused (slotChecks f s) (ruleCheck shown false ∷ []) (k (headlen shown) (datalen shown))
+    ∙ ap (judge span.Refused (slotChecks f s)) (sym (ruled-judge shown false k)))
+    (told spanSays span.Refused (k (headlen shown) (datalen shown)) (λ r. refl) refl (slot-row f s (rule-row shown false (λ h. nothing))))
 
 -- ---- a step
 
-refused-same : (q r : Refusal) → step.Refused q ≡ step.Refused r → q ≡ r
-refused-same q r e = cc
+confirm-says : (b : Bool) (w : ℕ) → stepSays (cond b (step.Saved 0 w) (step.Cleared 0 w)) .number ≡ 0
+confirm-says true w = refl
+confirm-says false w = refl
 
-module _ (f scan : List ℕ) (j : Job) (r : Refusal) where
+module _ (f scan : List ℕ) (j : Job) where
   abbrev ds : List (Check Refusal)
   ds = check (not (stands f scan j (sizesOf f))) Differs ∷ []
 
-  confirm-fires : (o : Opened) → openOf f ≡ o → confirmOf f scan j o ≡ step.Refused r → fired (openChecks f ++ ds) ≡ fires r
-  confirm-fires (opened.Refused q) e h = then-refused f ds e ∙ ap fires (refused-same q r h)
-  confirm-fires (opened.Opens z) e h =
-      then-opens f ds e
-      ∙ subst (λ (y : Sizes). fired (check (not (stands f scan j y)) Differs ∷ []) ≡ fires r) (sym (open-reads f e)) (go (stands f scan j z) h)
+  -- the confirming step's judgement, as checks
+  confirm-judge : (o : Opened) → openOf f ≡ o → confirmOf f scan j o ≡ judge step.Refused (openChecks f ++ ds) (confirmed j)
+  confirm-judge (opened.Refused q) e = sym (judge-fires step.Refused (openChecks f ++ ds) (confirmed j) q (then-refused f ds e))
+  confirm-judge (opened.Opens z) e =
+      subst (λ (y : Sizes). confirmOf f scan j (opened.Opens y) ≡ judge step.Refused ds (confirmed j)) (open-reads f e) (go (stands f scan j (sizesOf f)))
+      ∙ ap (answer step.Refused (confirmed j)) (sym (then-opens f ds e))
     where
-      go : (b : Bool) → cond b (confirmed j) (step.Refused Differs) ≡ step.Refused r → fired (check (not b) Differs ∷ []) ≡ fires r
-      go false h = ap fires (refused-same Differs r h)
-      go true h = absurd (never (j .saves) h)
-        where
-          never : (b : Bool) → cond b (step.Saved 0 (j .written)) (step.Cleared 0 (j .written)) ≡ step.Refused r → ⊥
-          never true h = let z : _≡_ {A = ℕ} 0 1 = cc in omega arith
-          never false h = let z : _≡_ {A = ℕ} 0 1 = cc in omega arith
+      go : (b : Bool) → cond b (confirmed j) (step.Refused Differs) ≡ judge step.Refused (check (not b) Differs ∷ []) (confirmed j)
+      go true = refl
+      go false = refl
 
-  stand-order : Meets (openChecks f ++ ds) (OpenOrder f (One (Standing f scan j (sizesOf f) → ⊥) Differs Nothing))
-  stand-order =
-      open-order f
+  stand-row : Meets (openChecks f ++ ds) (OpenRow f (asks (Standing f scan j (sizesOf f)) Differs end))
+  stand-row =
+      open-row f
       (λ S.
-      one (λ t h. true≢false (standing f scan j (sizesOf f) h) (not-true _ t)) (λ h. is-so (λ e. h (stood f scan j (sizesOf f) (not-false _ e)))) (λ e. nothing))
+      one (λ t h. true≢false (standing f scan j (sizesOf f) h) (not-true _ t)) (λ t. stood f scan j (sizesOf f) (not-false _ t)) (λ h. nothing))
 
-  step-refused : (a left : Bool) → agrees f scan j ≡ a → hasLeft (sizesOf f) scan j ≡ left
-      → cond a (cond left (step.Wrote (writeAt (sizesOf f) scan j .record-no) (j .written + 1)) (confirmOf f scan j (openOf f))) (step.Refused Disagrees) ≡ step.Refused r
-      → StepOrder f scan j r
-  step-refused false left p q e = given (λ h. true≢false (agreeing f scan j (sizesOf f) h) p) (sym (refused-same Disagrees r e))
-  step-refused true true p q e = let z : _≡_ {A = ℕ} 0 1 = cc in absurd (omega arith)
-  step-refused true false p q e =
-      let a = agreed f scan j p in
-      passed (λ h. h a) (
-        omega (arith, ltb-false (j .written) (length (writesOf (sizesOf f) j scan)) q, length-writes (sizesOf f) j scan, a .left),
-        stand-order .gives r (confirm-fires (openOf f) refl e),
-      )
+  -- the checks of a step, by whether a write is left
+  abbrev left-checks : Bool → List (Check Refusal)
+  left-checks true = []
+  left-checks false = openChecks f ++ ds
 
--- ---- a scan's classes and data, and a read
+  agree-row : (left : Bool) → hasLeft (sizesOf f) scan j ≡ left → Meets (check (not (agrees f scan j)) Disagrees ∷ left-checks left) (StepRow f scan j)
+  agree-row left q =
+      one (λ t h. true≢false (agreeing f scan j (sizesOf f) h) (not-true _ t)) (λ t. agreed f scan j (not-false _ t)) (λ a. go left q a)
+    where
+      n : length (writesOf (sizesOf f) j scan) ≡ countOf (sizesOf f) j + 2
+      n = length-writes (sizesOf f) j scan
 
-ruled-fires : (s : List ℕ) (k : ℕ → ℕ → Span) → ((a b : ℕ) (r : Refusal) → k a b ≡ span.Refused r → ⊥) → (r : Refusal)
-    → ofRuled k (ruledOf s false) ≡ span.Refused r → Rules s false Nothing r
-ruled-fires s k never r e = go (ruledOf s false) refl e
-  where
-    go : (x : Ruled) → ruledOf s false ≡ x → ofRuled k x ≡ span.Refused r → Rules s false Nothing r
-    go (Keeps a b) p e = absurd (never a b r e)
-    go (Breaks n) p e = broken n (broken-rule s false p) (span-same r (BadScan n) (sym e))
+      go : (left : Bool) → hasLeft (sizesOf f) scan j ≡ left → Agreeing f scan j (sizesOf f)
+          → Meets (left-checks left) (only-if (j .written ≡ countOf (sizesOf f) j + 2) (OpenRow f (asks (Standing f scan j (sizesOf f)) Differs end)))
+      go true q a = not-asked (λ e. omega (arith, ltb-true (j .written) (length (writesOf (sizesOf f) j scan)) q, n))
+      go false q a = asked-so (omega (arith, ltb-false (j .written) (length (writesOf (sizesOf f) j scan)) q, n, a .left)) stand-row
 
-class-part : (s : List ℕ) (number a b : ℕ) (r : Refusal) → classIn (startsOf s) (classesOf s) a number ≡ span.Refused r → ⊥
-unfolding classIn
-class-part s number a b r e = part-never (all (leb 1 number ∷ leb number (classesOf s) ∷ [])) _ _ _ _ r e
-
-read-fires : (cs : List (Check Refusal)) (from : ℕ) (s : List ℕ) (r : Refusal) → judge span.Refused cs (readIn from (ruledOf s false)) ≡ span.Refused r
-    → fired (cs ++ (ruleCheck s false ∷ [])) ≡ fires r
-read-fires cs from s r e = go (ruledOf s false) refl e
-  where
-    go : (x : Ruled) → ruledOf s false ≡ x → judge span.Refused cs (readIn from x) ≡ span.Refused r
-        → fired (cs ++ (check (ltb 0 (reasonOf x)) (BadScan (reasonOf x)) ∷ [])) ≡ fires r
-    go (Keeps a b) p e = fires-append cs _ r (span-fires cs from (from + (a + b)) r e)
-    go (Breaks n) p e = last-fires cs (BadScan n) (ltb 0 n) (lt-ltb 0 n (broken-rule s false p .low)) r e
+  step-told : (a left : Bool) → agrees f scan j ≡ a → hasLeft (sizesOf f) scan j ≡ left
+      → Told (stepSays (cond a (cond left (wroteOf (sizesOf f) scan j) (confirmOf f scan j (openOf f))) (step.Refused Disagrees))) (StepRow f scan j)
+  step-told a true p q =
+      subst (λ (b : Bool). Told (stepSays (cond b (wroteOf (sizesOf f) scan j) (step.Refused Disagrees))) (StepRow f scan j)) p
+      (subst (λ (x : Step). Told (stepSays x) (StepRow f scan j)) (go (agrees f scan j))
+      (told stepSays step.Refused (wroteOf (sizesOf f) scan j) (λ r. refl) refl (agree-row true q)))
+    where
+      go : (b : Bool) → judge step.Refused (check (not b) Disagrees ∷ []) (wroteOf (sizesOf f) scan j) ≡ cond b (wroteOf (sizesOf f) scan j) (step.Refused Disagrees)
+      go true = refl
+      go false = refl
+  step-told a false p q =
+      subst (λ (b : Bool). Told (stepSays (cond b (confirmOf f scan j (openOf f)) (step.Refused Disagrees))) (StepRow f scan j)) p
+      (subst (λ (x : Step). Told (stepSays x) (StepRow f scan j)) (go (agrees f scan j))
+      (told stepSays step.Refused (confirmed j) (λ r. refl) (confirm-says (j .saves) (j .written)) (agree-row false q)))
+    where
+      go : (b : Bool) → judge step.Refused (check (not b) Disagrees ∷ (openChecks f ++ ds)) (confirmed j) ≡ cond b (confirmOf f scan j (openOf f)) (step.Refused Disagrees)
+      go true = sym (confirm-judge (openOf f) refl)
+      go false = refl
 
 -- ---- every call
 
-pub refusals : Refusals
-unfolding listedOf foundOf showOf readOf classOf dataOf saveOf keepOf clearOf stepAnswer blankOf
-refusals =
+pub refused-exactly : RefusedExactly
+unfolding openOf listedOf foundOf showOf readOf classOf dataOf saveOf keepOf clearOf stepAnswer blankOf
+refused-exactly =
     record {
-      open-file = λ f r e. open-order f (λ S. nothing) .gives r (open-fires f e);
-      list = λ f out r e.
-          open-order f (λ S. one (ltb-true _ _) (lt-ltb _ _) (λ t. nothing)) .gives r (listed-fires (listChecks f out) (length (listOf f)) r e);
-      entry = λ f s r e.
-          slot-order f s nothing .gives r (taken-fires _ (λ (x : Found). x .answer) _ (slotChecks f s) (λ q. refl) refl r e);
-      show = λ f s r e. slot-order f s nothing .gives r (span-fires (slotChecks f s) _ _ r e);
-      read = λ f s r e.
-          slot-order f s (rules-one (shownOf f (sizesOf f) s) false (λ h. nothing)) .gives r
-          (read-fires (slotChecks f s) (startOf (sizesOf f) (runOf f (sizesOf f) s .first)) (shownOf f (sizesOf f) s) r e);
-      class = λ s n r e. ruled-fires s _ (class-part s n) r e;
-      rest = λ s r e. ruled-fires s _ (λ a b r e. span-never _ _ r e) r e;
-      save-scan = λ f slot scan about r e.
-          open-order f (λ S. slot-one (sizesOf f) slot (scan-order f scan S)) .gives r
-          (begun-fires (openChecks f ++ (noSlot (sizesOf f) slot ∷ scanChecks f scan)) (saveJob f slot scan about) r e);
-      keep-scan = λ f scan about r e.
-          open-order f (λ S. keep-one f (scan-order f scan S)) .gives r
-          (begun-fires (openChecks f ++ (check (eqb (keepSlot f) 0) NoEmptySlot ∷ scanChecks f scan)) (saveJob f (keepSlot f) scan about) r e);
-      clear-slot = λ f slot r e. slot-order f slot nothing .gives r (begun-fires (slotChecks f slot) (clearJob f slot) r e);
-      step-job = λ f scan j r e. step-refused f scan j r (agrees f scan j) (hasLeft (sizesOf f) scan j) refl refl e;
-      blank = λ f n l m r e.
-          blank-order f (blankSizes n l m) .gives r
-          (taken-fires taken.Refused (λ x. x) taken.Accepted (blankChecks f (blankSizes n l m)) (λ q. refl) refl r e);
+      open-file = λ f. told openedSays opened.Refused (opened.Opens (sizesOf f)) (λ r. refl) refl (open-row f (λ S. nothing));
+      list = λ f out.
+          told listedSays listed.Refused (listed.Scans (length (listOf f))) (λ r. refl) refl
+          (open-row f (λ S. one (λ t h. omega (arith, ltb-true (length out) (3 * length (listOf f)) t)) (λ t. omega (arith, ltb-false (length out) (3 * length (listOf f)) t)) (λ h. nothing)));
+      entry = λ f s. told (λ (x : Found). takenSays (x .answer)) _ _ (λ r. refl) refl (slot-row f s nothing);
+      show = λ f s. told spanSays span.Refused _ (λ r. refl) refl (slot-row f s nothing);
+      read = λ f s. read-told f s;
+      class = λ s n. ruled-told s _ (λ a b. class-says s n a);
+      rest = λ s. ruled-told s _ (λ a b. refl);
+      save-scan = λ f slot scan about.
+          told (λ (b : Begun). takenSays (b .answer)) refused _ (λ r. refl) refl (open-row f (λ S. slot-asks (sizesOf f) slot (scan-row f scan S)));
+      keep-scan = λ f scan about.
+          told (λ (b : Begun). takenSays (b .answer)) refused _ (λ r. refl) refl (open-row f (λ S. keep-asks f (scan-row f scan S)));
+      clear-slot = λ f slot. told (λ (b : Begun). takenSays (b .answer)) refused _ (λ r. refl) refl (slot-row f slot nothing);
+      step-job = λ f scan j. step-told f scan j (agrees f scan j) (hasLeft (sizesOf f) scan j) refl refl;
+      blank = λ f n l m. told takenSays taken.Refused taken.Accepted (λ r. refl) refl (blank-row f n l m);
     }

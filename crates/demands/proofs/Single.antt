@@ -44,7 +44,10 @@ one-outcome =
       read = λ f s. span-one (readOf f s);
       class = λ s n. span-one (classOf s n);
       rest = λ s. span-one (dataOf s);
-      parts = λ f s a b p q. p ∙ sym q;
+      parts = λ f at s a b p q.
+          let e : a .holds ≡ b .holds = p .0 ∙ sym (q .0) in
+          let h : a .begins ≡ b .begins = p .1 ∙ sym (q .1) in
+          ap (λ (l : List ℕ). record { holds = l; begins = a .begins }) e ∙ ap (λ (n : ℕ × ℕ). record { holds = b .holds; begins = n }) h;
       save-scan = λ f slot scan about. begin-one (saveOf f slot scan about);
       keep-scan = λ f scan about. begin-one (keepOf f scan about);
       clear-slot = λ f slot. begin-one (clearOf f slot);

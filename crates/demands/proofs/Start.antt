@@ -1,15 +1,12 @@
 -- An accepted operation, step by step: its job is ready, and file and job after i steps are those that the laws of `paper` speak of.
-use Prim.Native.Nat.{ℕ, zero, suc, _+_, _-_, _*_, _≤_}
+use Prim.Native.Nat.{ℕ, zero, suc, _-_, _*_}
 use mathlib.Core.Path.{_≡_, refl, sym, _∙_, ap, subst}
 use mathlib.Core.Bool.{true, cond}
 use mathlib.Core.List.{List, []}
 use native.Mathlib.Omega.{arith}
 use native.Mathlib.Nat.{zero-mul}
-use lib.ListN.{length, drop}
-use lib.Seq.{drop-at}
-use Rattle.lent.specs.Write.{zeros}
 use Rattle.lent.proofs.Lists.{true≢false}
-use Rattle.lent.proofs.Writes.{length-zeros, zeros-append, pad-none}
+use Rattle.lent.proofs.Writes.{pad-none}
 use Rattle.paper.specs.declared.sizes.Sizes.{Sizes}
 use Rattle.paper.specs.declared.answer.Opened.the-variants.{Opens}
 use Rattle.paper.specs.declared.answer.Taken.{Taken}
@@ -19,10 +16,9 @@ use Rattle.paper.specs.declared.job.Begun.{Begun}
 use Rattle.paper.specs.declared.job.Step.the-variants.{Saved, Cleared}
 use Rattle.paper.specs.Sizes.{sizesOf}
 use Rattle.paper.specs.Index.{openOf}
-use Rattle.paper.specs.Store.{recordsFor, runFrom, placeFor, saveOf, keepOf, clearOf, countOf, paddedOf, entryAfter}
+use Rattle.paper.specs.Store.{saveOf, keepOf, clearOf, countOf, paddedOf, entryAfter}
 use Rattle.paper.specs.Step.{stepJob}
-use Rattle.paper.proofs.Opening.{open-reads, open-sound}
-use Rattle.paper.proofs.Encoding.{entry-rest}
+use Rattle.paper.proofs.Opening.{open-reads}
 use Rattle.paper.proofs.Ready.{fileAt}
 use Rattle.paper.proofs.Stages.{jobAt, job-start, stage-file, stage-job}
 use Rattle.paper.proofs.Begins.{Begins, save-taken, taken-save, keep-taken, taken-keep, clear-is-taken, taken-is-clear, save-begins, keep-begins, clear-begins}
@@ -33,18 +29,13 @@ use Rattle.demands.specs.Survival.{confirmed}
 pub record Starts (z : Sizes) (f : List ℕ) (op : Op) (j : Job) : Type 0 where
   pub begins : Begins z f (scanOf op) j
   pub count : countOf z j ≡ recordsOf z op
-  pub bytes : paddedOf z j (scanOf op) ≡ given z op .records
-  pub entry : drop 8 (entryAfter z j) ≡ given z op .entry
+  pub bytes : paddedOf z j (scanOf op) ≡ given f z op .records
+  pub entry : entryAfter z j ≡ given f z op .entry
   pub confirms : (c : ℕ) → cond (j .saves) (Saved 0 c) (Cleared 0 c) ≡ confirmed op c
 
 pub accepts : (a : Taken) → isAccepted a ≡ true → a ≡ Accepted
 accepts Accepted e = refl
 accepts (Refused r) e = absurd (true≢false e refl)
-
-drop-zeros : (m : ℕ) → 8 ≤ m → drop 8 (zeros m) ≡ zeros (m - 8)
-drop-zeros m h =
-    let e : m ≡ 8 + (m - 8) = omega arith in
-    ap (λ (n : ℕ). drop 8 (zeros n)) e ∙ ap (drop 8) (sym (zeros-append 8 (m - 8))) ∙ drop-at (zeros 8) (zeros (m - 8)) 8 (length-zeros 8)
 
 starts-own : (f : List ℕ) (op : Op) → Whole op → takes f op ≡ true → Starts (sizesOf f) f op (begin f op .job)
 starts-own f (save slot scan about) w e =
@@ -55,7 +46,7 @@ starts-own f (save slot scan about) w e =
       begins = save-begins f slot scan about w t;
       count = refl;
       bytes = refl;
-      entry = entry-rest z (runFrom (placeFor f (length scan)) (recordsFor z (length scan))) about;
+      entry = refl;
       confirms = λ c. refl;
     })
 starts-own f (keep scan about) w e =
@@ -66,7 +57,7 @@ starts-own f (keep scan about) w e =
       begins = keep-begins f scan about w t;
       count = refl;
       bytes = refl;
-      entry = entry-rest z (runFrom (placeFor f (length scan)) (recordsFor z (length scan))) about;
+      entry = refl;
       confirms = λ c. refl;
     })
 starts-own f (clear slot) w e =
@@ -77,7 +68,7 @@ starts-own f (clear slot) w e =
       begins = clear-begins f slot t;
       count = refl;
       bytes = pad-none (0 * z .l) [] (omega (arith, zero-mul (z .l)));
-      entry = drop-zeros (z .m) (omega (arith, open-sound (t .opens) .booted .ranged .shape .m-low));
+      entry = refl;
       confirms = λ c. refl;
     })
 

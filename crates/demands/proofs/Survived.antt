@@ -71,6 +71,7 @@ power-cut f z o os w =
       d = x .d;
       u = x .u;
       c = x .c;
+      counts = x .counts;
       opens = sound-open (x .sound);
       shows = x .shows;
       lists = list-is (x .sound) (holds f os (heldAt f z)) (x .shows);

@@ -1,31 +1,35 @@
 -- Demand 2, of what is listed and counted.
-use Prim.Native.Nat.{ℕ, _+_, _<_}
+use Prim.Native.Nat.{ℕ, _+_, _-_, _*_, _≤_, _<_}
 use mathlib.Core.Path.{_≡_, refl, sym, _∙_, ap, subst}
 use mathlib.Core.Bool.{Bool, true, false, cond, not}
 use mathlib.Core.List.{List, List·Memᴰ}
+use mathlib.Core.Logic.{⊎-elim}
 use native.Mathlib.Omega.{arith}
 use borrow.Author.Tests.{ltb-true}
-use lib.ListN.{length}
+use lib.ListN.{length, take, drop, getD, length-take}
 use Rattle.lent.specs.Write.{write}
-use Rattle.lent.proofs.Lists.{Rising, those-rising}
-use Rattle.lent.proofs.Checks.{judge-passed, judge-clear}
+use Rattle.lent.specs.Lists.{Rising}
+use Rattle.lent.proofs.Lists.{lt-or-ge, those-rising}
+use Rattle.lent.proofs.Writes.{length-write, write-before, write-after}
 use Rattle.paper.specs.declared.sizes.Sizes.{Sizes}
-use Rattle.paper.specs.declared.refusal.Refusal.{Refusal}
 use Rattle.paper.specs.declared.refusal.Refusal.the-variants.{Disagrees, Differs}
 use Rattle.paper.specs.declared.answer.Opened.{Opened}
 use Rattle.paper.specs.declared.answer.Opened.the-variants.{Opens, Refused}
-use Rattle.paper.specs.declared.answer.Listed.the-variants as listed
 use Rattle.paper.specs.declared.job.Job.{Job}
 use Rattle.paper.specs.declared.job.Step.the-variants as step
-use Rattle.paper.specs.Sizes.{sizesOf}
+use Rattle.paper.specs.Sizes.{sizesOf, bootBytes, startOf, homeOf}
 use Rattle.paper.specs.Index.{runOf, empty, slotsOf, openOf}
-use Rattle.paper.specs.Look.{linesOf, listOf, listChecks, listedOf, listedOut}
-use Rattle.paper.specs.Store.{countOf, writesOf}
-use Rattle.paper.specs.Step.{agrees, hasLeft, writeAt, stands, confirmOf, stepAnswer}
+use Rattle.paper.specs.Store.{recordsFor, countOf, paddedOf, sizesAfter, entryAfter, writesOf}
+use Rattle.paper.specs.Step.{agrees, hasLeft, writeAt, stands, confirmOf, stepFile, stepAnswer}
 use Rattle.paper.proofs.Opening.{open-sound, open-reads, slots-holds, holds-slots, full-holds}
-use Rattle.paper.proofs.Writes.{length-writes}
-use Rattle.paper.proofs.Agreement.{step-file, job-moved}
-use Rattle.demands.specs.Said.{ListExactly, ListWrites, Next, WroteNext}
+use Rattle.paper.proofs.Sizing.{less, times, home-is, home-in}
+use Rattle.paper.proofs.Encoding.{length-boot}
+use Rattle.paper.proofs.Free.{room-in}
+use Rattle.paper.proofs.Records.{entry-length}
+use Rattle.paper.proofs.Writes.{length-writes, row-saves}
+use Rattle.paper.proofs.Agreement.{agreed, file-refused, step-file, step-data, step-boot, step-entry, step-past, job-moved}
+use Rattle.demands.specs.Reads.{entryByte}
+use Rattle.demands.specs.Said.{ListExactly, Next, WroteNext, Outside, StepKeeps}
 
 slots-rising : (z : Sizes) (f : List ℕ) → Rising (slotsOf z (runOf f z))
 unfolding slotsOf
@@ -43,18 +47,6 @@ list-exactly f z o =
           subst (λ (y : Sizes). List·Memᴰ s (slotsOf y (runOf f y))) (sym e) (holds-slots z (runOf f z) s (full-holds (S .laid) s a b h));
       rising = slots-rising (sizesOf f) f;
     }
-
-pub list-writes : ListWrites
-unfolding listedOf listedOut
-list-writes f out n e =
-    let p = judge-passed listed.Refused (listChecks f out) (listed.Scans (length (listOf f))) (listed.Scans n) (λ r. never r n) e in
-    (sym (same (length (listOf f)) n (p .1)), judge-clear (λ (r : Refusal). out) (listChecks f out) (write out 0 (linesOf (runOf f (sizesOf f)) (listOf f))) (p .0))
-  where
-    never : (r : Refusal) (n : ℕ) → listed.Refused r ≡ listed.Scans n → ⊥
-    never r n e = let z : _≡_ {A = ℕ} 0 1 = cc in omega arith
-
-    same : (a b : ℕ) → listed.Scans a ≡ listed.Scans b → a ≡ b
-    same a b e = cc
 
 -- ---- a step that wrote
 
@@ -88,3 +80,68 @@ next f scan j r count true true p q e =
 pub wrote-next : WroteNext
 unfolding stepAnswer
 wrote-next f scan j r count e = next f scan j r count (agrees f scan j) (hasLeft (sizesOf f) scan j) refl refl e
+
+-- ---- the bytes that a step keeps
+
+keeps-write : (f : List ℕ) (at : ℕ) (bs : List ℕ) (b : ℕ) → at + length bs ≤ length f → (at ≤ b → at + length bs ≤ b)
+    → (getD (write f at bs) b 0 ≡ getD f b 0) × (length (write f at bs) ≡ length f)
+keeps-write f at bs b fits h = (
+  ⊎-elim (λ (l : b < at). write-before f at bs (omega arith) b l) (λ (l : at ≤ b). write-after f at bs (omega arith) b (h l)) (lt-or-ge b at),
+  length-write f at bs fits,
+)
+
+module _ (f scan : List ℕ) (j : Job) (k54 : length (j .about) ≡ 54) (b : ℕ) (o : Outside (sizesOf f) j b) where
+  abbrev z : Sizes
+  z = sizesOf f
+
+  abbrev Keeps : Type 0
+  Keeps = (getD (stepFile f scan j) b 0 ≡ getD f b 0) × (length (stepFile f scan j) ≡ length f)
+
+  written : (at : ℕ) (bs : List ℕ) → stepFile f scan j ≡ write f at bs → at + length bs ≤ length f → (at ≤ b → at + length bs ≤ b) → Keeps
+  written at bs e fits h = rw e (keeps-write f at bs b fits h)
+
+  keeps-row : agrees f scan j ≡ true → j .written < countOf z j → Keeps
+  keeps-row e h =
+      let A = agreed f scan j e in
+      let s : j .saves ≡ true = row-saves z j (omega arith) in
+      let w : ℕ = j .written in
+      let bs : List ℕ = take (z .l) (drop (w * z .l) (paddedOf z j scan)) in
+      let k : countOf z j ≡ recordsFor z (j .size) = ap (λ (t : Bool). cond t (recordsFor z (j .size)) 0) s in
+      let l : length bs ≤ z .l = omega (arith, length-take (z .l) (drop (w * z .l) (paddedOf z j scan))) in
+      let a : (j .first + w - 1) * z .l + z .l ≡ (j .first + w) * z .l = less (j .first + w) (z .l) (omega (arith, A .past s)) in
+      let r : (j .first + w) * z .l ≤ length f = room-in z (length f) (j .first + w) (omega (arith, A .within s)) in
+      let p : (j .first - 1) * z .l ≤ (j .first + w - 1) * z .l = times (j .first - 1) (j .first + w - 1) (z .l) (omega (arith, A .past s)) in
+      let q : (j .first + w) * z .l ≤ (j .first - 1 + recordsFor z (j .size)) * z .l =
+      times (j .first + w) (j .first - 1 + recordsFor z (j .size)) (z .l) (omega (arith, A .past s)) in
+      written (startOf z (j .first + w)) bs (step-data f scan j z e refl h) (omega arith) (λ x. omega (arith, o .rows s (omega arith)))
+
+  keeps-boot : agrees f scan j ≡ true → j .written ≡ countOf z j → Keeps
+  keeps-boot e h =
+      written 0 (bootBytes (sizesAfter z j)) (step-boot f scan j z e refl h) (omega (arith, length-boot (sizesAfter z j), agreed f scan j e .booted .long))
+      (λ x. omega (arith, length-boot (sizesAfter z j), o .boot))
+
+  keeps-entry : agrees f scan j ≡ true → j .written ≡ countOf z j + 1 → Keeps
+  keeps-entry e h =
+      let A = agreed f scan j e in
+      let n : length (entryAfter z j) ≡ z .m = entry-length z (A .booted .ranged .shape) j k54 in
+      let q : entryByte z (j .slot) ≡ homeOf z (j .slot) = home-is z (j .slot) in
+      written (homeOf z (j .slot)) (entryAfter z j) (step-entry f scan j z e refl h) (omega (arith, home-in (A .booted) (j .slot) (A .low) (A .high)))
+      (λ x. omega (arith, o .entry (omega arith)))
+
+  keeps-file : stepFile f scan j ≡ f → Keeps
+  keeps-file e = (ap (λ (g : List ℕ). getD g b 0) e, ap length e)
+
+  keeps : (a : Bool) → agrees f scan j ≡ a → Keeps
+  keeps false e = keeps-file (file-refused f scan j e)
+  keeps true e =
+      ⊎-elim (λ (h : j .written < countOf z j). keeps-row e h)
+      (λ (h : countOf z j ≤ j .written).
+      ⊎-elim (λ (k : j .written < countOf z j + 1). keeps-boot e (omega arith))
+      (λ (k : countOf z j + 1 ≤ j .written).
+      ⊎-elim (λ (m : j .written < countOf z j + 2). keeps-entry e (omega arith)) (λ (m : countOf z j + 2 ≤ j .written). keeps-file (step-past f scan j z e refl m))
+      (lt-or-ge (j .written) (countOf z j + 2)))
+      (lt-or-ge (j .written) (countOf z j + 1)))
+      (lt-or-ge (j .written) (countOf z j))
+
+pub step-keeps : StepKeeps
+step-keeps f scan j k54 b o = keeps f scan j k54 b o (agrees f scan j) refl

@@ -15,13 +15,13 @@ use Rattle.paper.specs.declared.job.Begun.{Begun}
 use Rattle.paper.specs.declared.job.Step.the-variants.{Saved}
 use Rattle.paper.specs.Index.{runOf, Full, slotsOf, openOf, Sound}
 use Rattle.paper.specs.Scan.{headlen, datalen, ruledOf}
-use Rattle.paper.specs.Look.{listOf}
+use Rattle.paper.specs.Look.{listOf, InIndex}
 use Rattle.paper.specs.Store.{recordsFor, runFrom, saveOf, keepOf}
 use Rattle.paper.proofs.Opening.{open-sound, sound-open, open-reads, full-holds, holds-slots, slots-holds}
 use Rattle.paper.proofs.Encoding.{entry-about}
 use Rattle.paper.proofs.Confirming.{ended, saved-shown, saved-entry, saved-run, cleared-shown, cleared-entry, cleared-run}
 use Rattle.paper.proofs.Reading.{read-back}
-use Rattle.paper.proofs.Begins.{InIndex, save-taken, taken-save, keep-taken, taken-keep}
+use Rattle.paper.proofs.Begins.{save-taken, taken-save, keep-taken, taken-keep}
 use Rattle.paper.proofs.Stages.{jobAt}
 use Rattle.demands.specs.History.{Op, save, keep, clear, Whole, begin, scanOf, recordsOf, takes, State, stateAfter}
 use Rattle.demands.specs.Survival.{confirmed}

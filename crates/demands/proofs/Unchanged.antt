@@ -1,16 +1,18 @@
 -- Demand 1 holds.
 use Prim.Native.Nat.{ℕ, _+_, _≤_}
-use mathlib.Core.Path.{_≡_, refl, ap}
+use mathlib.Core.Path.{_≡_, refl, sym, _∙_, ap, subst}
 use mathlib.Core.Bool.{Bool, true, false, cond}
 use mathlib.Core.List.{List, _∷_, _++_}
 use native.Mathlib.Omega.{arith}
 use borrow.Author.Tests.{ltb-false}
 use lib.Dec.{eqb}
 use lib.ListN.{length}
-use Rattle.lent.specs.Checks.{Check, check, judge}
-use Rattle.lent.proofs.Checks.{judge-fires}
+use Rattle.lent.specs.Checks.{Check, check, Fired, clear, fires, fired, answer, judge}
+use Rattle.lent.proofs.Checks.{judge-fires, judge-refused}
 use Rattle.paper.specs.declared.refusal.Refusal.{Refusal}
 use Rattle.paper.specs.declared.refusal.Refusal.the-variants.{TooShort, OldForm, UnknownForm, OutOfRange, PastEnd, BadEntry, AboveUse, SharedRecord, NoSuchSlot, EmptySlot, BadScan, NoEmptySlot, NoRoom, Disagrees, Differs, BadBlank, TooSmall}
+use Rattle.paper.specs.declared.answer.Listed.the-variants as listed
+use Rattle.paper.specs.declared.answer.Taken.{Taken}
 use Rattle.paper.specs.declared.answer.Taken.the-variants as taken
 use Rattle.paper.specs.declared.entry.Found.{Found}
 use Rattle.paper.specs.declared.job.Job.{Job}
@@ -19,18 +21,68 @@ use Rattle.paper.specs.declared.job.Step.the-variants as step
 use Rattle.paper.specs.Refusals.{numberOf}
 use Rattle.paper.specs.Sizes.{sizesOf}
 use Rattle.paper.specs.Index.{openChecks, openOf}
+use Rattle.paper.specs.Entry.{noEntry}
 use Rattle.paper.specs.Scan.{partOf}
 use Rattle.paper.specs.Look.{listOf, listChecks, listedOf, listedOut, noSlot, slotChecks, foundOf}
 use Rattle.paper.specs.Store.{blankSizes, blankChecks, blankOf, blankFile, refused, accepted, noJob, saveJob, clearJob, keepSlot, scanChecks, saveOf, keepOf, clearOf, countOf, writesOf}
 use Rattle.paper.specs.Step.{agrees, hasLeft, writeAt, confirmOf, stepFile, stepJob, stepAnswer}
 use Rattle.paper.proofs.Writes.{length-writes}
 use Rattle.paper.proofs.Agreement.{disagreeing, file-refused, job-refused, answer-refused, step-past, job-past}
-use Rattle.demands.specs.Untouched.{Untouched}
-use Rattle.demands.proofs.Refusing.{taken-fires, begun-fires, listed-fires}
+use Rattle.demands.specs.Untouched.{ZeroJob, ZeroEntry, Untouched}
+
+-- ---- which check fired
+
+-- from an answer that says Taken
+module _ {A : Type 0} (refuse : Refusal → A) (says : A → Taken) (a : A) (cs : List (Check Refusal)) where
+  taken-fires : ((q : Refusal) → says (refuse q) ≡ taken.Refused q) → says a ≡ taken.Accepted → (r : Refusal) → says (judge refuse cs a) ≡ taken.Refused r → fired cs ≡ fires r
+  taken-fires p q r e = go (fired cs) e
+    where
+      go : (x : Fired Refusal) → says (answer refuse a x) ≡ taken.Refused r → x ≡ fires r
+      go clear e = let z : _≡_ {A = ℕ} 0 1 = cc in absurd (omega arith)
+      go (fires s) e = let h = p s in ap fires (same s r (sym h ∙ e))
+        where
+          same : (s r : Refusal) → taken.Refused s ≡ taken.Refused r → s ≡ r
+          same s r e = cc
+
+begun-fires : (cs : List (Check Refusal)) (j : Job) (r : Refusal) → judge refused cs (accepted j) .answer ≡ taken.Refused r → fired cs ≡ fires r
+begun-fires cs j r e = taken-fires refused (λ (b : Begun). b .answer) (accepted j) cs (λ q. refl) refl r e
+
+listed-fires : (cs : List (Check Refusal)) (n : ℕ) (r : Refusal) → judge listed.Refused cs (listed.Scans n) ≡ listed.Refused r → fired cs ≡ fires r
+listed-fires cs n r e = judge-refused listed.Refused cs (listed.Scans n) r listed-same listed-never e
+  where
+    listed-same : (q r : Refusal) → listed.Refused q ≡ listed.Refused r → q ≡ r
+    listed-same q r e = cc
+
+    listed-never : listed.Scans n ≡ listed.Refused r → ⊥
+    listed-never e = let z : _≡_ {A = ℕ} 0 1 = cc in omega arith
+
+-- ---- zeros
+
+zero-job : ZeroJob noJob
+zero-job = record { saves = refl; slot = refl; size = refl; span = refl; first = refl; written = refl; boot = refl; about = refl }
+
+zero-entry : ZeroEntry noEntry
+zero-entry =
+    record {
+      first = refl;
+      last = refl;
+      horizontal = refl;
+      vertical = refl;
+      source = refl;
+      scan = refl;
+      field4 = refl;
+      field8 = refl;
+      lst = refl;
+      date = refl;
+      mode = refl;
+      number = refl;
+      position = refl;
+      kind = refl;
+    }
 
 -- a call that is refused hands back what its checks say
-begun-none : (cs : List (Check Refusal)) (j : Job) (r : Refusal) → judge refused cs (accepted j) .answer ≡ taken.Refused r → judge refused cs (accepted j) .job ≡ noJob
-begun-none cs j r e = ap (λ (b : Begun). b .job) (judge-fires refused cs (accepted j) r (begun-fires cs j r e))
+begun-none : (cs : List (Check Refusal)) (j : Job) (r : Refusal) → judge refused cs (accepted j) .answer ≡ taken.Refused r → ZeroJob (judge refused cs (accepted j) .job)
+begun-none cs j r e = subst (λ (b : Begun). ZeroJob (b .job)) (sym (judge-fires refused cs (accepted j) r (begun-fires cs j r e))) zero-job
 
 step-kept : (f scan : List ℕ) (j : Job) (r : Refusal) (a left : Bool) → agrees f scan j ≡ a → hasLeft (sizesOf f) scan j ≡ left
     → cond a (cond left (step.Wrote (writeAt (sizesOf f) scan j .record-no) (j .written + 1)) (confirmOf f scan j (openOf f))) (step.Refused Disagrees) ≡ step.Refused r
@@ -75,9 +127,10 @@ untouched =
       keep-scan = λ f scan about r e.
           begun-none (openChecks f ++ (check (eqb (keepSlot f) 0) NoEmptySlot ∷ scanChecks f scan)) (saveJob f (keepSlot f) scan about) r e;
       clear-slot = λ f slot r e. begun-none (slotChecks f slot) (clearJob f slot) r e;
-      no-job = λ f scan. answer-refused f scan noJob (disagreeing f scan noJob (λ a. omega (arith, a .booted .long, a .span)));
+      no-job = λ f scan j h. answer-refused f scan j (disagreeing f scan j (λ a. omega (arith, a .booted .long, a .span, h .span)));
       entry = λ f s r e.
-          ap (λ (x : Found). x .entry) (judge-fires _ (slotChecks f s) _ r (taken-fires _ (λ (x : Found). x .answer) _ (slotChecks f s) (λ q. refl) refl r e));
+          subst (λ (x : Found). ZeroEntry (x .entry))
+          (sym (judge-fires _ (slotChecks f s) _ r (taken-fires _ (λ (x : Found). x .answer) _ (slotChecks f s) (λ q. refl) refl r e))) zero-entry;
       show = λ f s r e. ap (partOf f) e;
       read = λ f s r e. ap (partOf f) e;
       class = λ s n r e. ap (partOf s) e;

@@ -1,4 +1,4 @@
--- When each refusal of 01's table is given: its condition in plain facts, and the order of each call.
+-- What each call asks for, in plain facts and in 01's order, and the refusal that is given where it is not so: a row for each call.
 use Prim.Native.Nat.{ℕ, _+_, _*_, _≤_, _<_}
 use mathlib.Core.Path.{_≡_}
 use mathlib.Core.Bool.{Bool, true, false}
@@ -11,38 +11,52 @@ use Rattle.paper.specs.declared.refusal.Refusal.the-variants.{TooShort, OldForm
 use Rattle.paper.specs.declared.job.Job.{Job}
 use Rattle.paper.specs.Sizes.{sizesOf, versionOf, capacityOf, roomOf, bytesOf, Ranged}
 use Rattle.paper.specs.Index.{runOf, Full, shownOf, Lies}
-use Rattle.paper.specs.Look.{listOf}
-use Rattle.paper.specs.Store.{blankSizes, recordsFor, countOf}
-use Rattle.paper.proofs.Agreement.{Agreeing, Standing}
-use Rattle.paper.proofs.Begins.{InIndex}
-use Rattle.paper.proofs.Blank.{Blankable}
-use Rattle.paper.proofs.Reasons.{Broken}
+use Rattle.paper.specs.Scan.{Rule}
+use Rattle.paper.specs.Look.{listOf, InIndex}
+use Rattle.paper.specs.Store.{blankSizes, recordsFor, countOf, Blankable}
+use Rattle.paper.specs.Step.{Agreeing, Standing}
 
--- the refusal r is q, and its condition holds; or it does not, and the rest decides
-pub data One (P : Type 0) (q : Refusal) (rest : Refusal → Type 0) (r : Refusal) : Type 0 where
-  given : P → r ≡ q → One P q rest r
-  passed : (P → ⊥) → rest r → One P q rest r
+-- ---- rows
 
--- "lowest": the slot is the lowest of 1 to n of which P holds
-pub record Lowest (P : ℕ → Type 0) (n slot : ℕ) : Type 0 where
-  pub low : 1 ≤ slot
-  pub high : slot ≤ n
-  pub holds : P slot
-  pub below : (t : ℕ) → 1 ≤ t → t < slot → P t → ⊥
+-- what is asked for, one thing after the other
+pub data Row : Type 1 where
+  end : Row
+  -- a fact, and the refusal where it does not hold
+  asks : (Good : Type 0) → Refusal → Row → Row
+  -- a fact of each number from 1 to n, and the refusal that names the lowest of which it does not hold
+  asks-each : (Good : ℕ → Type 0) (n : ℕ) → (ℕ → Refusal) → Row → Row
+  -- what follows is asked for only where P holds
+  only-if : (P : Type 0) → Row → Row
 
--- the refusal names that slot; or there is none
-pub data Least (P : ℕ → Type 0) (n : ℕ) (q : ℕ → Refusal) (rest : Refusal → Type 0) (r : Refusal) : Type 0 where
-  named : (slot : ℕ) → Lowest P n slot → r ≡ q slot → Least P n q rest r
-  none : ((s : ℕ) → 1 ≤ s → s ≤ n → P s → ⊥) → rest r → Least P n q rest r
+-- "lowest": of 1 to n, the lowest of which the fact does not hold
+pub record Lowest (Good : ℕ → Type 0) (n k : ℕ) : Type 0 where
+  pub low : 1 ≤ k
+  pub high : k ≤ n
+  pub amiss : Good k → ⊥
+  pub below : (t : ℕ) → 1 ≤ t → t < k → Good t
 
--- 11 names the first rule broken; or none is
-pub data Rules (scan : List ℕ) (saving : Bool) (rest : Refusal → Type 0) (r : Refusal) : Type 0 where
-  broken : (reason : ℕ) → Broken scan saving reason → r ≡ BadScan reason → Rules scan saving rest r
-  kept : ((n : ℕ) → Broken scan saving n → ⊥) → rest r → Rules scan saving rest r
+-- the refusal r is q, since the fact does not hold; or it holds, and the rest decides
+pub data One (Good : Type 0) (q : Refusal) (Rest : Type 0) (r : Refusal) : Type 0 where
+  amiss : (Good → ⊥) → r ≡ q → One Good q Rest r
+  passed : Good → Rest → One Good q Rest r
 
--- no refusal is left
-abbrev pub Nothing : Refusal → Type 0
-Nothing r = ⊥
+pub data First (Good : ℕ → Type 0) (n : ℕ) (q : ℕ → Refusal) (Rest : Type 0) (r : Refusal) : Type 0 where
+  named : (k : ℕ) → Lowest Good n k → r ≡ q k → First Good n q Rest r
+  none : ((k : ℕ) → 1 ≤ k → k ≤ n → Good k) → Rest → First Good n q Rest r
+
+-- r is the refusal of the first fact in the row that does not hold
+abbrev pub Given : Row → Refusal → Type 0
+Given end r = ⊥
+Given (asks Good q row) r = One Good q (Given row r) r
+Given (asks-each Good n q row) r = First Good n q (Given row r) r
+Given (only-if P row) r = P × Given row r
+
+-- every fact of the row holds
+abbrev pub Met : Row → Type 0
+Met end = Unit
+Met (asks Good q row) = Good × Met row
+Met (asks-each Good n q row) = ((k : ℕ) → 1 ≤ k → k ≤ n → Good k) × Met row
+Met (only-if P row) = P → Met row
 
 -- ---- 1 to 8
 
@@ -56,32 +70,35 @@ pub record Shared (run : ℕ → Run) (s : ℕ) : Type 0 where
   pub here : (run s .first ≤ at) × (at ≤ run s .last)
   pub there : (run other .first ≤ at) × (at ≤ run other .last)
 
-abbrev pub IndexOrder : Sizes → (ℕ → Run) → (Refusal → Type 0) → Refusal → Type 0
-IndexOrder z run rest =
-    Least (λ s. Lies z (run s) → ⊥) (z .u) BadEntry
-    (Least (λ s. (z .u < s) × Full (run s)) (capacityOf z) AboveUse
-    (Least (Shared run) (z .u) SharedRecord rest))
+abbrev pub IndexRow : Sizes → (ℕ → Run) → Row → Row
+IndexRow z run row =
+    asks-each (λ s. Lies z (run s)) (z .u) BadEntry
+    (asks-each (λ s. z .u < s → run s .first + run s .last ≡ 0) (capacityOf z) AboveUse
+    (asks-each (λ s. Shared run s → ⊥) (z .u) SharedRecord row))
 
-abbrev pub OpenOrder : List ℕ → (Refusal → Type 0) → Refusal → Type 0
-OpenOrder f rest =
-    One (length f < 512) TooShort
-    (One (versionOf f ≡ 0) OldForm
-    (One (versionOf f ≡ 1 → ⊥) UnknownForm
-    (One (Ranged (sizesOf f) → ⊥) OutOfRange
-    (One (length f < bytesOf (sizesOf f)) PastEnd
-    (IndexOrder (sizesOf f) (runOf f (sizesOf f)) rest)))))
+abbrev pub OpenRow : List ℕ → Row → Row
+OpenRow f row =
+    asks (512 ≤ length f) TooShort
+    (asks (versionOf f ≡ 0 → ⊥) OldForm
+    (asks (versionOf f ≡ 1) UnknownForm
+    (asks (Ranged (sizesOf f)) OutOfRange
+    (asks (bytesOf (sizesOf f) ≤ length f) PastEnd
+    (IndexRow (sizesOf f) (runOf f (sizesOf f)) row)))))
 
 -- ---- each call: "1 to 8 as numbered, then 9 or 12, 10, 11, 13"
 
-abbrev pub SlotOrder : List ℕ → ℕ → (Refusal → Type 0) → Refusal → Type 0
-SlotOrder f s rest =
-    OpenOrder f (One (InIndex (sizesOf f) s → ⊥) NoSuchSlot (One (Full (runOf f (sizesOf f) s) → ⊥) EmptySlot rest))
+abbrev pub SlotRow : List ℕ → ℕ → Row → Row
+SlotRow f s row = OpenRow f (asks (InIndex (sizesOf f) s) NoSuchSlot (asks (Full (runOf f (sizesOf f) s)) EmptySlot row))
 
-abbrev pub ReadOrder : List ℕ → ℕ → Refusal → Type 0
-ReadOrder f s = SlotOrder f s (Rules (shownOf f (sizesOf f) s) false Nothing)
+-- 11: "the number of the first one broken"
+abbrev pub RuleRow : List ℕ → Bool → Row → Row
+RuleRow scan saving row = asks-each (Rule scan saving) 6 BadScan row
 
-abbrev pub ListOrder : List ℕ → List ℕ → Refusal → Type 0
-ListOrder f out = OpenOrder f (One (length out < 3 * length (listOf f)) TooSmall Nothing)
+abbrev pub ReadRow : List ℕ → ℕ → Row
+ReadRow f s = SlotRow f s (RuleRow (shownOf f (sizesOf f) s) false end)
+
+abbrev pub ListRow : List ℕ → List ℕ → Row
+ListRow f out = OpenRow f (asks (3 * length (listOf f) ≤ length out) TooSmall end)
 
 -- "r to r+k-1 lie within the room and belong to no listed scan"
 pub record FreeRun (f : List ℕ) (z : Sizes) (k r : ℕ) : Type 0 where
@@ -89,30 +106,32 @@ pub record FreeRun (f : List ℕ) (z : Sizes) (k r : ℕ) : Type 0 where
   pub within : r + k ≤ roomOf z (length f) + 1
   pub alone : (s q : ℕ) → 1 ≤ s → s ≤ z .u → r ≤ q → q < r + k → runOf f z s .first ≤ q → q ≤ runOf f z s .last → ⊥
 
--- 13: "no such r exists"
-abbrev pub NoPlace : List ℕ → List ℕ → Type 0
-NoPlace f scan = (r : ℕ) → FreeRun f (sizesOf f) (recordsFor (sizesOf f) (length scan)) r → ⊥
+-- 13: "no such r exists", where there is none of these
+pub record Place (f scan : List ℕ) : Type 0 where
+  pub at : ℕ
+  pub free : FreeRun f (sizesOf f) (recordsFor (sizesOf f) (length scan)) at
 
-abbrev pub ScanOrder : List ℕ → List ℕ → Refusal → Type 0
-ScanOrder f scan = Rules scan true (One (NoPlace f scan) NoRoom Nothing)
+abbrev pub ScanRow : List ℕ → List ℕ → Row
+ScanRow f scan = RuleRow scan true (asks (Place f scan) NoRoom end)
 
-abbrev pub SaveOrder : List ℕ → ℕ → List ℕ → Refusal → Type 0
-SaveOrder f slot scan = OpenOrder f (One (InIndex (sizesOf f) slot → ⊥) NoSuchSlot (ScanOrder f scan))
+abbrev pub SaveRow : List ℕ → ℕ → List ℕ → Row
+SaveRow f slot scan = OpenRow f (asks (InIndex (sizesOf f) slot) NoSuchSlot (ScanRow f scan))
 
--- 12: "no empty slot"
-abbrev pub KeepOrder : List ℕ → List ℕ → Refusal → Type 0
-KeepOrder f scan =
-    OpenOrder f (One ((s : ℕ) → 1 ≤ s → s ≤ capacityOf (sizesOf f) → Full (runOf f (sizesOf f) s)) NoEmptySlot (ScanOrder f scan))
+-- 12: "no empty slot", where there is none of these
+pub record Vacant (f : List ℕ) : Type 0 where
+  pub slot : ℕ
+  pub slotted : InIndex (sizesOf f) slot
+  pub empty : runOf f (sizesOf f) slot .first + runOf f (sizesOf f) slot .last ≡ 0
 
-abbrev pub ClearOrder : List ℕ → ℕ → Refusal → Type 0
-ClearOrder f slot = SlotOrder f slot Nothing
+abbrev pub KeepRow : List ℕ → List ℕ → Row
+KeepRow f scan = OpenRow f (asks (Vacant f) NoEmptySlot (ScanRow f scan))
 
 -- "A step checks 14 first .. The confirming step then gives 1 to 8, then 15": a step that has a record to write is refused with nothing but 14
-abbrev pub StepOrder : List ℕ → List ℕ → Job → Refusal → Type 0
-StepOrder f scan j =
-    One (Agreeing f scan j (sizesOf f) → ⊥) Disagrees
-    (λ r. (j .written ≡ countOf (sizesOf f) j + 2) × OpenOrder f (One (Standing f scan j (sizesOf f) → ⊥) Differs Nothing) r)
+abbrev pub StepRow : List ℕ → List ℕ → Job → Row
+StepRow f scan j =
+    asks (Agreeing f scan j (sizesOf f)) Disagrees
+    (only-if (j .written ≡ countOf (sizesOf f) j + 2) (OpenRow f (asks (Standing f scan j (sizesOf f)) Differs end)))
 
 -- 16
-abbrev pub BlankOrder : List ℕ → ℕ → ℕ → ℕ → Refusal → Type 0
-BlankOrder f n l m = One (Blankable f (blankSizes n l m) → ⊥) BadBlank Nothing
+abbrev pub BlankRow : List ℕ → ℕ → ℕ → ℕ → Row
+BlankRow f n l m = asks (Blankable f (blankSizes n l m)) BadBlank end

@@ -1,10 +1,10 @@
 -- A history: saves, keeps and clears, one after the other, each stepped as far as its cut says and then dropped; and what each slot is then to hold.
-use Prim.Native.Nat.{ℕ, zero, suc, _+_, _-_, _*_}
+use Prim.Native.Nat.{ℕ, zero, suc, _+_, _*_, _%_}
 use mathlib.Core.Path.{_≡_}
 use mathlib.Core.Bool.{Bool, true, false, cond}
-use mathlib.Core.List.{List, [], _∷_, _++_}
+use mathlib.Core.List.{List, [], _∷_}
 use lib.Dec.{leb, eqb}
-use lib.ListN.{length, drop}
+use lib.ListN.{length}
 use Rattle.lent.specs.Lists.{also}
 use Rattle.lent.specs.Write.{pad, zeros}
 use Rattle.paper.specs.declared.sizes.Sizes.{Sizes}
@@ -15,7 +15,8 @@ use Rattle.paper.specs.declared.job.Begun.{Begun}
 use Rattle.paper.specs.declared.job.Step.{Step}
 use Rattle.paper.specs.Sizes.{sizesOf}
 use Rattle.paper.specs.Index.{shownOf, entryAt}
-use Rattle.paper.specs.Store.{recordsFor, saveOf, keepOf, clearOf}
+use Rattle.paper.specs.Entry.{entryBytes}
+use Rattle.paper.specs.Store.{recordsFor, runFrom, placeFor, saveOf, keepOf, clearOf}
 use Rattle.paper.specs.Step.{stepFile, stepJob, stepAnswer}
 
 -- ---- one operation
@@ -96,21 +97,33 @@ run f op cut = cond (takes f op) (stateAfter f op (stepsOf cut) .file) f
 unfoldable pub reached : List ℕ → Op → Cut → Bool
 reached f op cut = also (takes f op) (leb (recordsOf (sizesOf f) op + 2) (stepsOf cut))
 
+-- its record 1 was written: the one after k data records
+unfoldable pub renews : List ℕ → Op → Cut → Bool
+renews f op cut = also (takes f op) (leb (recordsOf (sizesOf f) op + 1) (stepsOf cut))
+
 -- ---- what slots hold
 
--- a slot's records, none where it is empty, and its entry from byte 8 on
+-- a slot's records, none where it is empty, and its entry
 pub record Held : Type 0 where
   pub records : List ℕ
   pub entry : List ℕ
 
 abbrev pub heldAt : List ℕ → Sizes → ℕ → Held
-heldAt f z s = record { records = shownOf f z s; entry = drop 8 (entryAt f z s) }
+heldAt f z s = record { records = shownOf f z s; entry = entryAt f z s }
 
--- what an operation gives its slot: the scan, "the last [record] padded with zeros", and the entry's bytes, "62 to M-1 written as zeros"
-abbrev pub given : Sizes → Op → Held
-given z (save slot scan about) = record { records = pad (recordsFor z (length scan) * z .l) scan; entry = about ++ zeros (z .m - 62) }
-given z (keep scan about) = record { records = pad (recordsFor z (length scan) * z .l) scan; entry = about ++ zeros (z .m - 62) }
-given z (clear slot) = record { records = []; entry = zeros (z .m - 8) }
+-- the scan, "the last [record] padded with zeros", and its entry: first and last record, and the bytes given
+abbrev pub saves : List ℕ → Sizes → List ℕ → List ℕ → Held
+saves f z scan about =
+    record {
+      records = pad (recordsFor z (length scan) * z .l) scan;
+      entry = entryBytes z (runFrom (placeFor f (length scan)) (recordsFor z (length scan))) about;
+    }
+
+-- what an operation that is begun on f gives its slot; of a clear "M zeros as the entry"
+abbrev pub given : List ℕ → Sizes → Op → Held
+given f z (save slot scan about) = saves f z scan about
+given f z (keep scan about) = saves f z scan about
+given f z (clear slot) = record { records = []; entry = zeros (z .m) }
 
 abbrev pub Holding : Type 0
 Holding = ℕ → Held
@@ -120,7 +133,7 @@ put h s x t = cond (eqb t s) x (h t)
 
 -- an operation changes its slot where it reached the index, and nothing else
 abbrev pub change : List ℕ → Op → Cut → Holding → Holding
-change f op cut h t = cond (reached f op cut) (put h (slotOf f op) (given (sizesOf f) op) t) (h t)
+change f op cut h t = cond (reached f op cut) (put h (slotOf f op) (given f (sizesOf f) op) t) (h t)
 
 -- ---- a history
 
@@ -141,3 +154,18 @@ after f (o ∷ os) = after (run f (o .op) (o .cut)) os
 abbrev pub holds : List ℕ → List Done → Holding → Holding
 holds f [] h = h
 holds f (o ∷ os) h = holds (run f (o .op) (o .cut)) os (change f (o .op) (o .cut) h)
+
+-- how many of its jobs reached record 1
+abbrev pub jobs : List ℕ → List Done → ℕ
+jobs f [] = 0
+jobs f (o ∷ os) = cond (renews f (o .op) (o .cut)) 1 0 + jobs (run f (o .op) (o .cut)) os
+
+-- "update counter: 32 plain bits; after all ones comes zero": a counter c raised n times
+abbrev pub raised : ℕ → ℕ → ℕ
+raised zero c = c
+raised (suc n) c = raised n ((c + 1) % 4294967296)
+
+-- no change of the history reached slot s
+abbrev pub Spares : List ℕ → List Done → ℕ → Type 0
+Spares f [] s = Unit
+Spares f (o ∷ os) s = (reached f (o .op) (o .cut) ≡ true → slotOf f (o .op) ≡ s → ⊥) × Spares (run f (o .op) (o .cut)) os s

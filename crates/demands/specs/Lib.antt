@@ -1,7 +1,10 @@
 pub mod History
 pub mod Survival
 pub mod Causes
+pub mod Begun
 pub mod Truth
+pub mod Reads
+pub mod Entries
 pub mod Said
 pub mod Untouched
 pub mod NotEmpty

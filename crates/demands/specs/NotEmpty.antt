@@ -1,9 +1,9 @@
 -- Not empty: there are files that open, and a scan that is accepted, confirmed and read back. A store that refuses everything keeps no promise here.
-use Prim.Native.Nat.{ℕ, _+_, _*_, _≤_}
+use Prim.Native.Nat.{ℕ, _+_, _*_, _≤_, _<_}
 use mathlib.Core.Path.{_≡_}
 use mathlib.Core.Bool.{true}
 use mathlib.Core.List.{List, [], _∷_}
-use lib.ListN.{length, replicate}
+use lib.ListN.{length, getD, replicate}
 use Rattle.paper.specs.declared.answer.Opened.the-variants.{Opens}
 use Rattle.paper.specs.declared.answer.Taken.the-variants.{Accepted}
 use Rattle.paper.specs.declared.job.Step.the-variants.{Saved}
@@ -23,6 +23,15 @@ abbrev pub BlankOpens : Type 0
 BlankOpens =
     (f : List ℕ) (n l m : ℕ) → blankOf f n l m ≡ Accepted
     → (openOf (blankFile f n l m) ≡ Opens (blankSizes n l m)) × (listOf (blankFile f n l m) ≡ [])
+
+-- "Blank writes N records, .. zeros after word 8, and touches nothing beyond"
+pub record Blanked (f g : List ℕ) (n l : ℕ) : Type 0 where
+  pub cleared : (i : ℕ) → 32 ≤ i → i < n * l → getD g i 0 ≡ 0
+  pub beyond : (i : ℕ) → n * l ≤ i → getD g i 0 ≡ getD f i 0
+  pub as-long : length g ≡ length f
+
+abbrev pub BlankWrites : Type 0
+BlankWrites = (f : List ℕ) (n l m : ℕ) → blankOf f n l m ≡ Accepted → Blanked f (blankFile f n l m) n l
 
 -- the least scan there is: 13 classes at the words 5, 21, 22 .. 32, HEADLEN 256 and DATALEN 0
 unfoldable pub leastScan : List ℕ

@@ -3,6 +3,7 @@
 use Prim.Native.Nat.{ℕ}
 use mathlib.Core.Path.{_≡_}
 use mathlib.Core.List.{List}
+use Rattle.lent.specs.Part.{bytesOn}
 use Rattle.paper.specs.declared.answer.Opened.{Opened}
 use Rattle.paper.specs.declared.answer.Listed.{Listed}
 use Rattle.paper.specs.declared.answer.Span.{Span}
@@ -13,7 +14,7 @@ use Rattle.paper.specs.declared.job.Begun.{Begun}
 use Rattle.paper.specs.declared.job.Stepped.{Stepped}
 use Rattle.paper.specs.Refusals.{openedSays, listedSays, spanSays, takenSays, stepSays}
 use Rattle.paper.specs.Index.{openOf}
-use Rattle.paper.specs.Scan.{partOf, classOf, dataOf}
+use Rattle.paper.specs.Scan.{partOf, spanPlace, classOf, dataOf}
 use Rattle.paper.specs.Look.{listedOf, listedOut, foundOf, showOf, readOf}
 use Rattle.paper.specs.Store.{blankOf, blankFile, saveOf, keepOf, clearOf}
 use Rattle.paper.specs.Step.{stepFile, stepJob, stepAnswer}
@@ -26,6 +27,11 @@ Only {A} Allowed = (a b : A) → Allowed a → Allowed b → a ≡ b
 pub record Outcome (A : Type 0) : Type 0 where
   pub answer : A
   pub lent : List ℕ
+
+-- a slice that is handed out: what it holds, and the address at which it begins
+pub record Slice : Type 0 where
+  pub holds : List ℕ
+  pub begins : ℕ × ℕ
 
 -- the answer of a beginning and its job
 abbrev pub Begins : Begun → Begun → Type 0
@@ -41,8 +47,8 @@ pub record OneOutcome : Type 0 where
   pub read : (f : List ℕ) (s : ℕ) → Only (λ (x : Span). spanSays x ≡ spanSays (readOf f s))
   pub class : (s : List ℕ) (n : ℕ) → Only (λ (x : Span). spanSays x ≡ spanSays (classOf s n))
   pub rest : (s : List ℕ) → Only (λ (x : Span). spanSays x ≡ spanSays (dataOf s))
-  -- the parts of what is lent that show, read, class and data name
-  pub parts : (f : List ℕ) (s : Span) → Only (λ (x : List ℕ). x ≡ partOf f s)
+  -- the parts that show, read, class and data name, of what is lent at an address
+  pub parts : (f : List ℕ) (at : ℕ × ℕ) (s : Span) → Only (λ (x : Slice). (x .holds ≡ partOf f s) × (x .begins ≡ bytesOn (spanPlace f s) at))
   pub save-scan : (f : List ℕ) (slot : ℕ) (scan about : List ℕ) → Only (Begins (saveOf f slot scan about))
   pub keep-scan : (f scan about : List ℕ) → Only (Begins (keepOf f scan about))
   pub clear-slot : (f : List ℕ) (slot : ℕ) → Only (Begins (clearOf f slot))

@@ -1,20 +1,20 @@
 -- Demand 2, of what is listed and counted: the index fixes the list, and a step's record and count are the job's place in its list of writes.
-use Prim.Native.Nat.{ℕ, _+_, _≤_}
+use Prim.Native.Nat.{ℕ, _+_, _-_, _*_, _≤_}
 use mathlib.Core.Path.{_≡_}
+use mathlib.Core.Bool.{true}
 use mathlib.Core.List.{List, List·Memᴰ}
-use lib.ListN.{length}
-use Rattle.lent.specs.Write.{write}
-use Rattle.lent.proofs.Lists.{Rising}
+use lib.ListN.{length, getD}
+use Rattle.lent.specs.Lists.{Rising}
 use Rattle.paper.specs.declared.sizes.Sizes.{Sizes}
 use Rattle.paper.specs.declared.answer.Opened.the-variants.{Opens}
-use Rattle.paper.specs.declared.answer.Listed.the-variants.{Scans}
 use Rattle.paper.specs.declared.job.Job.{Job}
 use Rattle.paper.specs.declared.job.Step.the-variants.{Wrote}
 use Rattle.paper.specs.Sizes.{sizesOf, capacityOf}
 use Rattle.paper.specs.Index.{runOf, Full, openOf}
-use Rattle.paper.specs.Look.{linesOf, listOf, listedOf, listedOut}
-use Rattle.paper.specs.Store.{perform}
+use Rattle.paper.specs.Look.{listOf}
+use Rattle.paper.specs.Store.{recordsFor, perform}
 use Rattle.paper.specs.Step.{writeAt, stepFile, stepJob, stepAnswer}
+use Rattle.demands.specs.Reads.{entryByte}
 
 -- the list: exactly the slots that are not empty, rising, so each once
 pub record Exactly (f : List ℕ) (z : Sizes) : Type 0 where
@@ -25,12 +25,6 @@ pub record Exactly (f : List ℕ) (z : Sizes) : Type 0 where
 abbrev pub ListExactly : Type 0
 ListExactly = (f : List ℕ) (z : Sizes) → openOf f ≡ Opens z → Exactly f z
 
--- "it writes slot, first and last as three 32-bit numbers per scan in slot order, and no further element, and answers the number of scans"
-abbrev pub ListWrites : Type 0
-ListWrites =
-    (f out : List ℕ) (n : ℕ) → listedOf f out ≡ Scans n
-    → (n ≡ length (listOf f)) × (listedOut f out ≡ write out 0 (linesOf (runOf f (sizesOf f)) (listOf f)))
-
 -- what a step that wrote did: the next write of its job's list, and no other
 pub record Next (f scan : List ℕ) (j : Job) (r count : ℕ) : Type 0 where
   pub record-is : r ≡ writeAt (sizesOf f) scan j .record-no
@@ -40,3 +34,15 @@ pub record Next (f scan : List ℕ) (j : Job) (r count : ℕ) : Type 0 where
 
 abbrev pub WroteNext : Type 0
 WroteNext = (f scan : List ℕ) (j : Job) (r count : ℕ) → stepAnswer f scan j ≡ Wrote r count → Next f scan j r count
+
+-- the bytes that no step of a job changes: "kept by every write" after word 8, "other bytes of that record kept", and the records of others
+pub record Outside (z : Sizes) (j : Job) (b : ℕ) : Type 0 where
+  pub boot : 32 ≤ b
+  pub entry : entryByte z (j .slot) ≤ b → entryByte z (j .slot) + z .m ≤ b
+  pub rows : j .saves ≡ true → (j .first - 1) * z .l ≤ b → (j .first - 1 + recordsFor z (j .size)) * z .l ≤ b
+
+-- For every file, scan and job, hand-made ones too.
+abbrev pub StepKeeps : Type 0
+StepKeeps =
+    (f scan : List ℕ) (j : Job) → length (j .about) ≡ 54 → (b : ℕ) → Outside (sizesOf f) j b
+    → (getD (stepFile f scan j) b 0 ≡ getD f b 0) × (length (stepFile f scan j) ≡ length f)

@@ -10,28 +10,42 @@ use Rattle.paper.specs.declared.job.Step.{Step}
 use Rattle.paper.specs.declared.job.Step.the-variants.{Wrote, Saved, Cleared}
 use Rattle.paper.specs.Sizes.{renewed, capacityOf, recordOf}
 use Rattle.paper.specs.Index.{openOf}
-use Rattle.paper.specs.Look.{listOf}
+use Rattle.paper.specs.Scan.{partOf}
+use Rattle.paper.specs.Look.{listOf, foundOf, showOf, readOf}
 use Rattle.paper.specs.Step.{isConfirmed}
-use Rattle.demands.specs.History.{Op, save, keep, clear, Whole, begin, recordsOf, slotOf, takes, answerAfter, stepped, reached, heldAt, Holding, Done, Wholes, after, holds}
+use Rattle.demands.specs.History.{Op, save, keep, clear, Whole, begin, recordsOf, slotOf, takes, answerAfter, stepped, reached, heldAt, Holding, Done, Wholes, after, holds, jobs, raised, Spares}
 
 -- some bytes
 abbrev pub some : List ℕ → Bool
 some [] = false
 some (x ∷ xs) = true
 
--- the file g opens with z's sizes but for D, U and the counter, every slot holds what h says, and the list is the slots that have bytes, in slot order and
--- once each
-pub record Survives (z : Sizes) (g : List ℕ) (h : Holding) : Type 0 where
+-- the file g opens with z's sizes but for D, U and the counter, which is raised n times, every slot holds what h says, and the list is the slots that have
+-- bytes, in slot order and once each
+pub record Survives (z : Sizes) (g : List ℕ) (h : Holding) (n : ℕ) : Type 0 where
   pub d : ℕ
   pub u : ℕ
   pub c : ℕ
+  pub counts : c ≡ raised n (z .counter)
   pub opens : openOf g ≡ Opens (renewed z d u c)
   pub shows : (s : ℕ) → 1 ≤ s → s ≤ capacityOf z → heldAt g (renewed z d u c) s ≡ h s
   pub lists : listOf g ≡ those (λ s. some (h s .records)) (capacityOf z)
 
 -- For every file that opens and every history: "a cut after any record" is a number of steps like any other.
 abbrev pub PowerCut : Type 0
-PowerCut = (f : List ℕ) (z : Sizes) → openOf f ≡ Opens z → (os : List Done) → Wholes os → Survives z (after f os) (holds f os (heldAt f z))
+PowerCut = (f : List ℕ) (z : Sizes) → openOf f ≡ Opens z → (os : List Done) → Wholes os → Survives z (after f os) (holds f os (heldAt f z)) (jobs f os)
+
+-- entry, show and read of slot s answer of g what they answer of f, and give the same bytes
+pub record StillSo (f g : List ℕ) (s : ℕ) : Type 0 where
+  pub entry : foundOf g s ≡ foundOf f s
+  pub show : showOf g s ≡ showOf f s
+  pub shows : partOf g (showOf g s) ≡ partOf f (showOf f s)
+  pub read : readOf g s ≡ readOf f s
+  pub reads : partOf g (readOf g s) ≡ partOf f (readOf f s)
+
+-- After any history that did not change slot s, whatever it did to others.
+abbrev pub Stays : Type 0
+Stays = (f : List ℕ) (z : Sizes) → openOf f ≡ Opens z → (os : List Done) → Wholes os → (s : ℕ) → Spares f os s → StillSo f (after f os) s
 
 -- ---- confirmation
 

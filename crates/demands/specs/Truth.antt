@@ -1,4 +1,4 @@
--- Demand 2: what is answered is so. A file opens exactly when 01's rules hold, each refusal is given only under its condition and in order, and what is
+-- Demand 2: what is answered is so. A file opens exactly when 01's rules hold, each refusal is given exactly under its condition and in order, and what is
 -- confirmed stands in the file and is read back.
 use Prim.Native.Nat.{ℕ, _+_, _*_}
 use mathlib.Core.Path.{_≡_}
@@ -10,39 +10,45 @@ use Rattle.lent.specs.Write.{pad, zeros}
 use Rattle.paper.specs.declared.sizes.Sizes.{Sizes}
 use Rattle.paper.specs.declared.refusal.Refusal.{Refusal}
 use Rattle.paper.specs.declared.answer.Opened.the-variants as opened
-use Rattle.paper.specs.declared.answer.Listed.the-variants as listed
 use Rattle.paper.specs.declared.answer.Ruled.the-variants.{Keeps}
-use Rattle.paper.specs.declared.answer.Span.the-variants as span
-use Rattle.paper.specs.declared.answer.Taken.the-variants as taken
 use Rattle.paper.specs.declared.job.Job.{Job}
 use Rattle.paper.specs.declared.job.Step.the-variants as step
+use Rattle.paper.specs.Refusals.{Says, refuses, openedSays, listedSays, spanSays, takenSays, stepSays}
 use Rattle.paper.specs.Index.{shownOf, entryAt, openOf, Sound}
 use Rattle.paper.specs.Entry.{entryBytes}
 use Rattle.paper.specs.Scan.{ruledOf, partOf, classOf, dataOf}
 use Rattle.paper.specs.Look.{listOf, listedOf, foundOf, showOf, readOf}
 use Rattle.paper.specs.Store.{blankOf, recordsFor, runFrom, saveOf, keepOf, clearOf}
 use Rattle.paper.specs.Step.{stepAnswer}
-use Rattle.demands.specs.Causes.{Nothing, Rules, OpenOrder, SlotOrder, ReadOrder, ListOrder, SaveOrder, KeepOrder, ClearOrder, StepOrder, BlankOrder}
+use Rattle.demands.specs.Causes.{Row, end, Given, Met, OpenRow, SlotRow, RuleRow, ReadRow, ListRow, SaveRow, KeepRow, StepRow, BlankRow}
 use Rattle.demands.specs.History.{Op, save, keep, clear, Whole, scanOf, recordsOf, slotOf, takes, stateAfter}
 
 -- "A file opens exactly when" the facts of `Sound` hold: 01's ranges, its entries, and its rule that no two scans share a record.
 abbrev pub OpensExactly : Type 0
 OpensExactly = (f : List ℕ) (z : Sizes) → (openOf f ≡ opened.Opens z → Sound f z) × (Sound f z → openOf f ≡ opened.Opens z)
 
--- Each refusal is given only under its condition, and in 01's order.
-pub record Refusals : Type 0 where
-  pub open-file : (f : List ℕ) (r : Refusal) → openOf f ≡ opened.Refused r → OpenOrder f Nothing r
-  pub list : (f out : List ℕ) (r : Refusal) → listedOf f out ≡ listed.Refused r → ListOrder f out r
-  pub entry : (f : List ℕ) (s : ℕ) (r : Refusal) → foundOf f s .answer ≡ taken.Refused r → SlotOrder f s Nothing r
-  pub show : (f : List ℕ) (s : ℕ) (r : Refusal) → showOf f s ≡ span.Refused r → SlotOrder f s Nothing r
-  pub read : (f : List ℕ) (s : ℕ) (r : Refusal) → readOf f s ≡ span.Refused r → ReadOrder f s r
-  pub class : (s : List ℕ) (n : ℕ) (r : Refusal) → classOf s n ≡ span.Refused r → Rules s false Nothing r
-  pub rest : (s : List ℕ) (r : Refusal) → dataOf s ≡ span.Refused r → Rules s false Nothing r
-  pub save-scan : (f : List ℕ) (slot : ℕ) (scan about : List ℕ) (r : Refusal) → saveOf f slot scan about .answer ≡ taken.Refused r → SaveOrder f slot scan r
-  pub keep-scan : (f scan about : List ℕ) (r : Refusal) → keepOf f scan about .answer ≡ taken.Refused r → KeepOrder f scan r
-  pub clear-slot : (f : List ℕ) (slot : ℕ) (r : Refusal) → clearOf f slot .answer ≡ taken.Refused r → ClearOrder f slot r
-  pub step-job : (f scan : List ℕ) (j : Job) (r : Refusal) → stepAnswer f scan j ≡ step.Refused r → StepOrder f scan j r
-  pub blank : (f : List ℕ) (n l m : ℕ) (r : Refusal) → blankOf f n l m ≡ taken.Refused r → BlankOrder f n l m r
+-- what a call says, by number and values, against the row of what it asks for: refused with r exactly when r is the refusal of the first fact that does not
+-- hold, and accepted exactly when every fact holds
+pub record Told (says : Says) (row : Row) : Type 0 where
+  pub refused-so : (r : Refusal) → says ≡ refuses r → Given row r
+  pub so-refused : (r : Refusal) → Given row r → says ≡ refuses r
+  pub accepted-so : says .number ≡ 0 → Met row
+  pub so-accepted : Met row → says .number ≡ 0
+
+-- Each call is refused exactly under its conditions and in 01's order, and accepted exactly where none of them holds.
+pub record RefusedExactly : Type 0 where
+  pub open-file : (f : List ℕ) → Told (openedSays (openOf f)) (OpenRow f end)
+  pub list : (f out : List ℕ) → Told (listedSays (listedOf f out)) (ListRow f out)
+  pub entry : (f : List ℕ) (s : ℕ) → Told (takenSays (foundOf f s .answer)) (SlotRow f s end)
+  pub show : (f : List ℕ) (s : ℕ) → Told (spanSays (showOf f s)) (SlotRow f s end)
+  pub read : (f : List ℕ) (s : ℕ) → Told (spanSays (readOf f s)) (ReadRow f s)
+  pub class : (s : List ℕ) (n : ℕ) → Told (spanSays (classOf s n)) (RuleRow s false end)
+  pub rest : (s : List ℕ) → Told (spanSays (dataOf s)) (RuleRow s false end)
+  pub save-scan : (f : List ℕ) (slot : ℕ) (scan about : List ℕ) → Told (takenSays (saveOf f slot scan about .answer)) (SaveRow f slot scan)
+  pub keep-scan : (f scan about : List ℕ) → Told (takenSays (keepOf f scan about .answer)) (KeepRow f scan)
+  pub clear-slot : (f : List ℕ) (slot : ℕ) → Told (takenSays (clearOf f slot .answer)) (SlotRow f slot end)
+  pub step-job : (f scan : List ℕ) (j : Job) → Told (stepSays (stepAnswer f scan j)) (StepRow f scan j)
+  pub blank : (f : List ℕ) (n l m : ℕ) → Told (takenSays (blankOf f n l m)) (BlankRow f n l m)
 
 -- ---- what is confirmed stands
 

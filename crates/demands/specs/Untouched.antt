@@ -1,20 +1,52 @@
 -- Demand 1: every refusal of every call leaves every lent byte as it was, and hands back what 01 says.
 use Prim.Native.Nat.{ℕ, _≤_}
 use mathlib.Core.Path.{_≡_}
+use mathlib.Core.Bool.{false}
 use mathlib.Core.List.{List, []}
+use lib.IntN.{pos}
+use lib.Ieee.{binary32, binary64, ofBits}
+use lib.ListN.{replicate}
 use Rattle.paper.specs.declared.refusal.Refusal.{Refusal}
 use Rattle.paper.specs.declared.refusal.Refusal.the-variants.{Disagrees}
 use Rattle.paper.specs.declared.answer.Listed.the-variants as listed
 use Rattle.paper.specs.declared.answer.Span.the-variants as span
 use Rattle.paper.specs.declared.answer.Taken.the-variants as taken
+use Rattle.paper.specs.declared.entry.Entry.{Entry}
 use Rattle.paper.specs.declared.job.Job.{Job}
 use Rattle.paper.specs.declared.job.Step.the-variants as step
-use Rattle.paper.specs.Refusals.{numberOf}
-use Rattle.paper.specs.Entry.{noEntry}
+use Rattle.paper.specs.Refusals.{numberOf, kindSays}
 use Rattle.paper.specs.Scan.{partOf, classOf, dataOf}
 use Rattle.paper.specs.Look.{listedOf, listedOut, foundOf, showOf, readOf}
-use Rattle.paper.specs.Store.{blankOf, blankFile, noJob, saveOf, keepOf, clearOf}
+use Rattle.paper.specs.Store.{blankOf, blankFile, saveOf, keepOf, clearOf}
 use Rattle.paper.specs.Step.{stepFile, stepJob, stepAnswer}
+
+-- "a job of zeros"
+pub record ZeroJob (j : Job) : Type 0 where
+  pub saves : j .saves ≡ false
+  pub slot : j .slot ≡ 0
+  pub size : j .size ≡ 0
+  pub span : j .span ≡ 0
+  pub first : j .first ≡ 0
+  pub written : j .written ≡ 0
+  pub boot : j .boot ≡ replicate 32 0
+  pub about : j .about ≡ replicate 54 0
+
+-- an entry of zeros
+pub record ZeroEntry (e : Entry) : Type 0 where
+  pub first : e .first ≡ 0
+  pub last : e .last ≡ 0
+  pub horizontal : e .horizontal ≡ 0
+  pub vertical : e .vertical ≡ 0
+  pub source : e .source ≡ replicate 16 0
+  pub scan : e .scan ≡ 0
+  pub field4 : e .field4 ≡ 0
+  pub field8 : e .field8 ≡ 0
+  pub lst : e .lst ≡ 0
+  pub date : e .date ≡ 0
+  pub mode : e .mode ≡ pos 0
+  pub number : e .number ≡ pos 0
+  pub position : e .position ≡ pos 0
+  pub kind : kindSays (e .kind) ≡ record { number = 0; code = 0; single = ofBits binary32 0; double = ofBits binary64 0 }
 
 -- Three calls write to what is lent: blank and step to the file, list to what is lent for the list. The others only answer.
 pub record Untouched : Type 0 where
@@ -25,13 +57,13 @@ pub record Untouched : Type 0 where
   pub step-job : (f scan : List ℕ) (j : Job) (r : Refusal) → stepAnswer f scan j ≡ step.Refused r → (stepFile f scan j ≡ f) × (stepJob f scan j ≡ j)
   -- "a refused save, keep or clear hands back a job of zeros"
   pub save-scan : (f : List ℕ) (slot : ℕ) (scan about : List ℕ) (r : Refusal) → saveOf f slot scan about .answer ≡ taken.Refused r
-      → saveOf f slot scan about .job ≡ noJob
-  pub keep-scan : (f scan about : List ℕ) (r : Refusal) → keepOf f scan about .answer ≡ taken.Refused r → keepOf f scan about .job ≡ noJob
-  pub clear-slot : (f : List ℕ) (slot : ℕ) (r : Refusal) → clearOf f slot .answer ≡ taken.Refused r → clearOf f slot .job ≡ noJob
+      → ZeroJob (saveOf f slot scan about .job)
+  pub keep-scan : (f scan about : List ℕ) (r : Refusal) → keepOf f scan about .answer ≡ taken.Refused r → ZeroJob (keepOf f scan about .job)
+  pub clear-slot : (f : List ℕ) (slot : ℕ) (r : Refusal) → clearOf f slot .answer ≡ taken.Refused r → ZeroJob (clearOf f slot .job)
   -- which no file takes
-  pub no-job : (f scan : List ℕ) → stepAnswer f scan noJob ≡ step.Refused Disagrees
+  pub no-job : (f scan : List ℕ) (j : Job) → ZeroJob j → stepAnswer f scan j ≡ step.Refused Disagrees
   -- an entry of zeros, and the empty part
-  pub entry : (f : List ℕ) (s : ℕ) (r : Refusal) → foundOf f s .answer ≡ taken.Refused r → foundOf f s .entry ≡ noEntry
+  pub entry : (f : List ℕ) (s : ℕ) (r : Refusal) → foundOf f s .answer ≡ taken.Refused r → ZeroEntry (foundOf f s .entry)
   pub show : (f : List ℕ) (s : ℕ) (r : Refusal) → showOf f s ≡ span.Refused r → partOf f (showOf f s) ≡ []
   pub read : (f : List ℕ) (s : ℕ) (r : Refusal) → readOf f s ≡ span.Refused r → partOf f (readOf f s) ≡ []
   pub class : (s : List ℕ) (n : ℕ) (r : Refusal) → classOf s n ≡ span.Refused r → partOf s (classOf s n) ≡ []

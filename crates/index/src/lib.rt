@@ -1,29 +1,16 @@
 //! A file judged: its bootstrap, then its index by one pass over the entries, which leaves their runs in a row.
 ghost use mathlib.Core.Path.{_≡_};
 ghost use Prim.Native.Nat.{_≤_};
-ghost use lib.ListN.{length};
 ghost use Rattle.paper.specs.Refusals.{openedSays};
 ghost use Rattle.paper.specs.Index.{indexOf, openOf, runOf, Booted};
-ghost use Rattle.index.specs.Judging.{Judged};
 use paper::answer::Opened;
 use paper::sizes::Sizes;
 
 mod lay;
 mod rise;
+pub mod rowed;
 mod skip;
 pub mod slots;
-
-// The judgement of a file, with the row lent to it, which then holds the runs of a file that opens.
-pub fn judged(file: &[u8], row: &mut [u32]) -> Opened
-    requires { ⌜ 8192 ≤ length (now row) ⌝ }
-    ensures { λ r. ⌜ Judged (now (file .entry)) (now (row .exit)) r ⌝ }
-{
-    let j = entries::boot::boot(file);
-    let Opened::Opens(z) = j else {
-        return j;
-    };
-    slots::judge_row(file, z, row)
-}
 
 // A row for 1,024 slots: less to make ready where the index is small.
 fn judge_small(file: &[u8], z: Sizes) -> Opened

@@ -9,7 +9,7 @@ use native.Mathlib.Numerals.{add-one}
 use native.Mathlib.Omega.{arith}
 use lib.ListN.{length, take, getD, set, length-append, List·getD-append}
 use lib.Seq.{ext-getD, take-suc-set, take-all, getD-at}
-use Rattle.lent.specs.Lists.{table, also, all, every, those}
+use Rattle.lent.specs.Lists.{table, also, all, every, those, Above, Rising}
 
 -- ---- a test and its two answers
 
@@ -143,6 +143,11 @@ every-all (suc n) p e i h =
     ⊎-elim (λ (l : i < n). every-all n p (b .0) i l) (λ (l : n ≤ i). let q : n ≡ i = omega arith in rw (← q) (b .1)) (lt-or-ge i n)
 
 -- a turn of a loop that has passed i numbers, and the turn that stops it
+pub all-every : (n : ℕ) (p : ℕ → Bool) → ((i : ℕ) → i < n → p i ≡ true) → every n p ≡ true
+unfolding every
+all-every zero p h = refl
+all-every (suc n) p h = true-also (every n p) (p n) (all-every n p (λ i l. h i (omega arith))) (h n (omega arith))
+
 pub every-more : (i : ℕ) (p : ℕ → Bool) → every i p ≡ true → p i ≡ true → every (i + 1) p ≡ true
 unfolding every
 every-more i p e t = rw add-one (true-also (every i p) (p i) e t)
@@ -211,15 +216,6 @@ mem-those p (suc n) s h =
     last : (t : Bool) → t ≡ true → List·Memᴰ (suc n) (cond t (suc n ∷ []) [])
     last true e = List·Memᴰ·head refl
     last false e = absurd (true≢false e refl)
-
--- in order, and each once
-abbrev pub Above : ℕ → List ℕ → Type 0
-Above x [] = Unit
-Above x (y ∷ ys) = (x < y) × Above x ys
-
-abbrev pub Rising : List ℕ → Type 0
-Rising [] = Unit
-Rising (x ∷ xs) = Above x xs × Rising xs
 
 abbrev UpTo : ℕ → List ℕ → Type 0
 UpTo n [] = Unit

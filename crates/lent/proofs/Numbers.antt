@@ -3,16 +3,18 @@ use Prim.Native.Nat.{ℕ, zero, suc, _+_, _-_, _*_, _/_, _%_, _^_, _≤_, _<_}
 use mathlib.Core.Path.{_≡_, refl, sym, _∙_, ap}
 use mathlib.Core.List.{List, [], _∷_, _++_, append-assoc}
 use native.Mathlib.Omega.{arith}
-use native.Mathlib.Nat.{add-assoc, add-zero, add-suc, zero-add, add-mul, sub-self, mul-one, mul-assoc, pow-suc, pow-zero, div-one, div-eq-of-lt, div-add-mod', div-div-eq-div-mul}
+use mathlib.Core.Logic.{⊎-elim}
+use native.Mathlib.Nat.{add-assoc, add-zero, add-suc, zero-add, add-mul, sub-self, mul-one, mul-comm, mul-assoc, pow-suc, pow-zero, div-one, div-eq-of-lt, div-add-mod', div-div-eq-div-mul}
+use lib.Arith.{digits-div}
 use lib.ListN.{length, getD, length-append, List·getD-append, List·getD-eq-default}
-use lib.Seq.{getD-append-add}
+use lib.Seq.{getD-append-add, ext-getD}
 use Rattle.lent.specs.Lists.{table}
 use Rattle.lent.specs.Number.{Order, big, little, byteOf, value, digit, number, bytes, words}
 use Rattle.lent.specs.Part.{part, Alike}
 use Rattle.lent.specs.Write.{write, zeros, pad}
-use Rattle.lent.proofs.Lists.{length-table, table-at}
+use Rattle.lent.proofs.Lists.{lt-or-ge, length-table, table-at}
 use Rattle.lent.proofs.Writes.{write-in, getD-zeros, pad-at}
-use Rattle.lent.proofs.Parts.{part-at}
+use Rattle.lent.proofs.Parts.{length-part, part-at}
 
 -- ---- digits
 
@@ -52,6 +54,26 @@ value-digit n v (suc k) h l =
     let a : value k (digit n v) ≡ v / 256 ^ j / 256 =
     value-digit n v k h (omega arith) ∙ ap (λ (x : ℕ). v / 256 ^ x) e ∙ ap (λ (x : ℕ). v / x) (pow-suc 256 j) ∙ sym (div-div-eq-div-mul v (256 ^ j) 256) in
     rw (a, q) (div-add-mod' (v / 256 ^ j) 256)
+
+-- and back: digits below 256 are those of their number
+digit-value : (n : ℕ) (d : ℕ → ℕ) → ((i : ℕ) → i < n → d i < 256) → (i : ℕ) → i < n → digit n (value n d) i ≡ d i
+unfolding value digit
+digit-value zero d h i l = absurd (omega arith)
+digit-value (suc n) d h i l =
+    let v : ℕ = value n d * 256 + d n in
+    let s = h n (omega arith) in
+    ⊎-elim
+    (λ (k : i < n).
+    let e : suc n - 1 - i ≡ suc (n - 1 - i) = omega arith in
+    let p : 256 ^ suc (n - 1 - i) ≡ 256 * 256 ^ (n - 1 - i) = pow-suc 256 (n - 1 - i) ∙ mul-comm (256 ^ (n - 1 - i)) 256 in
+    rw (e, p)
+    (ap (λ (x : ℕ). x % 256) (sym (div-div-eq-div-mul v 256 (256 ^ (n - 1 - i))) ∙ ap (λ (x : ℕ). x / 256 ^ (n - 1 - i)) (digits-div (value n d) s))
+    ∙ digit-value n d (λ j m. h j (omega arith)) i k))
+    (λ (k : n ≤ i).
+    let q : n ≡ i = omega arith in
+    let e : suc n - 1 - n ≡ 0 = omega arith in
+    rw (← q, e, pow-zero, div-one) (omega arith))
+    (lt-or-ge i n)
 
 -- ---- a number depends on its own bytes alone
 
@@ -108,6 +130,19 @@ module _ (o : Order) (n : ℕ) where
       ∙ bytes-at v (byteOf o n i) k ∙ ap (digit n v) (byte-back o n i l))
       ∙ value-digit n v n h (omega arith)
       ∙ ap (λ (x : ℕ). v / 256 ^ x) (sub-self n) ∙ div-one v
+
+  -- and back, of bytes below 256
+  pub bytes-number : (s : List ℕ) (at : ℕ) → at + n ≤ length s → ((i : ℕ) → getD s i 0 < 256) → bytes o n (number o n s at) ≡ part at (at + n) s
+  unfolding number
+  bytes-number s at fits low =
+      let l : length (part at (at + n) s) ≡ n = length-part at (at + n) s fits ∙ omega arith in
+      ext-getD 0 (bytes o n (number o n s at)) (part at (at + n) s) (length-bytes (number o n s at) ∙ sym l)
+      (λ i h.
+      let k : i < n = omega (arith, length-bytes (number o n s at)) in
+      bytes-at (number o n s at) i k
+      ∙ digit-value n (λ j. getD s (at + byteOf o n j) 0) (λ j m. low (at + byteOf o n j)) (byteOf o n i) (byte-lt o n i k)
+      ∙ ap (λ (x : ℕ). getD s (at + x) 0) (byte-back o n i k)
+      ∙ sym (part-at at (at + n) s i (omega arith)))
 
 -- a wide number from two narrower ones
 pub number-join : (m n : ℕ) (s : List ℕ) (at : ℕ) → number big (m + n) s at ≡ number big m s at * 256 ^ n + number big n s (at + m)

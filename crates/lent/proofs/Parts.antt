@@ -1,13 +1,17 @@
 -- The laws of a part, of two runs with the same bytes in a range, and what a change does to both.
 use Prim.Native.Nat.{ℕ, _+_, _-_, _≤_, _<_, min}
-use mathlib.Core.Path.{_≡_, sym, _∙_}
+use mathlib.Core.Path.{_≡_, sym, _∙_, ap}
 use mathlib.Core.List.{List, [], _++_}
+use mathlib.Core.Logic.{⊎-elim}
 use native.Mathlib.Omega.{arith}
-use native.Mathlib.Nat.{add-sub-cancel-left, sub-eq-zero-of-le}
-use lib.ListN.{length, take, drop, getD, length-take, length-drop, drop-of-length-le}
-use lib.Seq.{length-take-le, getD-take, getD-drop, take-nil, take-all, drop-at, take-append-seam, ext-getD}
-use Rattle.lent.specs.Part.{part, Alike}
+use native.Mathlib.Nat.{add-assoc, add-sub-cancel-left, sub-eq-zero-of-le}
+use lib.ListN.{length, take, drop, getD, length-take, length-drop, length-append, drop-of-length-le, List·getD-append}
+use lib.Seq.{length-take-le, getD-take, getD-drop, take-nil, take-all, drop-at, take-append-seam, getD-append-add, ext-getD}
+use borrow.Author.Tests.{lt-ltb, le-ltb}
+use lib.Dec.{ltb}
+use Rattle.lent.specs.Part.{part, placeIn, bytesOn, Alike}
 use Rattle.lent.specs.Write.{write}
+use Rattle.lent.proofs.Lists.{lt-or-ge, also-false}
 use Rattle.lent.proofs.Writes.{write-before, write-after}
 
 -- ---- a part
@@ -31,6 +35,57 @@ part-past from to s h = rw (drop-of-length-le s h) (take-nil (to - from))
 pub part-rest : (from to : ℕ) (s : List ℕ) → length s ≤ to → part from (length s) s ≡ part from to s
 part-rest from to s h =
     take-all (length s - from) (drop from s) (simp length-drop (omega arith)) ∙ sym (take-all (to - from) (drop from s) (simp length-drop (omega arith)))
+
+-- at which byte it begins, and the address of that byte
+pub place-some : (from to : ℕ) (s : List ℕ) → from < length s → from < to → placeIn from to s ≡ from
+unfolding placeIn
+place-some from to s h k = rw (lt-ltb from (length s) h, lt-ltb from to k)
+
+pub place-past : (from to : ℕ) (s : List ℕ) → length s ≤ from → placeIn from to s ≡ 0
+unfolding placeIn
+place-past from to s h = rw (le-ltb from (length s) h)
+
+pub place-none : (from to : ℕ) (s : List ℕ) → to ≤ from → placeIn from to s ≡ 0
+unfolding placeIn
+place-none from to s h = rw (le-ltb from to h, also-false (ltb from (length s)))
+
+pub part-placed : (from to : ℕ) (s : List ℕ) (i : ℕ) → i < length (part from to s) → getD (part from to s) i 0 ≡ getD s (placeIn from to s + i) 0
+part-placed from to s i h =
+    let l = length-part-min from to s in
+    part-at from to s i (omega arith) ∙ ap (λ (p : ℕ). getD s (p + i) 0) (sym (place-some from to s (omega arith) (omega arith)))
+
+pub on-none : (at : ℕ × ℕ) {n : ℕ} → n ≡ 0 → at ≡ bytesOn n at
+on-none at e = ap (λ (o : ℕ). (at .0, o)) (omega arith)
+
+pub on-some : (at : ℕ × ℕ) {n m : ℕ} → m ≡ n → (at .0, n + at .1) ≡ bytesOn m at
+on-some at e = ap (λ (o : ℕ). (at .0, o)) (omega arith)
+
+-- a part of a part, and two parts that meet
+pub part-part : (a b : ℕ) (s : List ℕ) (i j : ℕ) → a + j ≤ b → b ≤ length s → part i j (part a b s) ≡ part (a + i) (a + j) s
+part-part a b s i j h k =
+    let l = length-part a b s k in
+    let m = length-part i j (part a b s) (omega arith) in
+    ext-getD 0 (part i j (part a b s)) (part (a + i) (a + j) s) (m ∙ sym (length-part (a + i) (a + j) s (omega arith) ∙ omega arith))
+    (λ n q.
+    part-at i j (part a b s) n (omega arith) ∙ part-at a b s (i + n) (omega arith) ∙ ap (λ (x : ℕ). getD s x 0) (sym (add-assoc a i n))
+    ∙ sym (part-at (a + i) (a + j) s n (omega arith)))
+
+pub part-join : (a b c : ℕ) (s : List ℕ) → a ≤ b → b ≤ c → c ≤ length s → part a b s ++ part b c s ≡ part a c s
+part-join a b c s h k m =
+    let x = length-part a b s (omega arith) in
+    let y = length-part b c s m in
+    let w = length-append (part a b s) (part b c s) in
+    ext-getD 0 (part a b s ++ part b c s) (part a c s) (omega (arith, length-part a c s m))
+    (λ i l.
+    ⊎-elim
+    (λ (q : i < b - a).
+    List·getD-append (part a b s) (part b c s) 0 i (omega arith) ∙ part-at a b s i q ∙ sym (part-at a c s i (omega arith)))
+    (λ (q : b - a ≤ i).
+    let e : i ≡ length (part a b s) + (i - (b - a)) = omega arith in
+    let o : b + (i - (b - a)) ≡ a + i = omega arith in
+    ap (λ (n : ℕ). getD (part a b s ++ part b c s) n 0) e ∙ getD-append-add (part a b s) (part b c s) (i - (b - a)) 0
+    ∙ part-at b c s (i - (b - a)) (omega arith) ∙ ap (λ (n : ℕ). getD s n 0) o ∙ sym (part-at a c s i (omega arith)))
+    (lt-or-ge i (b - a)))
 
 -- ---- the same bytes from a up to b
 

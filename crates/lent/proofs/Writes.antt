@@ -5,7 +5,7 @@ use mathlib.Core.Logic.{⊎-elim}
 use mathlib.Core.List.{List, [], _++_, append-assoc, append-nil}
 use native.Mathlib.Omega.{arith}
 use native.Mathlib.Nat.{add-zero}
-use lib.ListN.{length, take, drop, getD, length-append, length-drop, take-append-drop, length-replicate, drop-of-length-le, replicate-append-replicate, List·getD-append, List·getD-eq-default}
+use lib.ListN.{length, take, drop, getD, length-append, length-drop, take-append-drop, length-replicate, drop-of-length-le, List·getD-append, List·getD-eq-default}
 use lib.Seq.{length-take-le, getD-take, getD-drop, getD-append-add, take-at, drop-at, drop-drop, ext-getD}
 use Rattle.lent.specs.Write.{write, zeros, pad}
 use Rattle.lent.specs.Lists.{table}
@@ -22,10 +22,6 @@ unfolding zeros
 getD-zeros zero i = refl
 getD-zeros (suc n) zero = refl
 getD-zeros (suc n) (suc i) = getD-zeros n i
-
-pub zeros-append : (m n : ℕ) → zeros m ++ zeros n ≡ zeros (m + n)
-unfolding zeros
-zeros-append m n = replicate-append-replicate m n 0
 
 pub table-zeros : (n : ℕ) → table n (λ i. 0) ≡ zeros n
 table-zeros n =

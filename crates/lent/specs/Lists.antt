@@ -1,5 +1,5 @@
--- A list by its elements' numbers, a test of every number below n, the numbers of 1 to n that a test takes, and tests in a row.
-use Prim.Native.Nat.{ℕ, zero, suc}
+-- A list by its elements' numbers, a test of every number below n, the numbers of 1 to n that a test takes, tests in a row, and rising numbers.
+use Prim.Native.Nat.{ℕ, zero, suc, _<_}
 use mathlib.Core.Bool.{Bool, true, false, cond}
 use mathlib.Core.List.{List, [], _∷_, _++_}
 
@@ -27,3 +27,12 @@ every (suc n) p = also (every n p) (p n)
 unfoldable pub those : (ℕ → Bool) → ℕ → List ℕ
 those p zero = []
 those p (suc n) = those p n ++ cond (p (suc n)) (suc n ∷ []) []
+
+-- each is greater than the one before, so none stands twice
+abbrev pub Above : ℕ → List ℕ → Type 0
+Above x [] = Unit
+Above x (y ∷ ys) = (x < y) × Above x ys
+
+abbrev pub Rising : List ℕ → Type 0
+Rising [] = Unit
+Rising (x ∷ xs) = Above x xs × Rising xs

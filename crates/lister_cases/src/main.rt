@@ -11,7 +11,9 @@ fn one(k: usize) {
         io::write_all(STDOUT_FILENO, b"no such file\n");
         return;
     }
-    listing::print(fd);
+    if !listing::shell::print(fd) {
+        io::write_all(STDOUT_FILENO, b"cannot read\n");
+    }
     libc::close(fd);
 }
 

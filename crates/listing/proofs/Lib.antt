@@ -1,3 +1,5 @@
 pub mod Decimals
 pub mod Putting
 pub mod Texts
+pub mod Printing
+pub mod Reading

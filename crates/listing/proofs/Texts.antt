@@ -1,6 +1,6 @@
 -- The text from its lines, and how long it can be.
 use Prim.Native.Nat.{ℕ, _+_, _≤_}
-use mathlib.Core.Path.{_≡_, refl, _∙_, ap}
+use mathlib.Core.Path.{_≡_, refl, _∙_, ap, subst}
 use mathlib.Core.List.{List, [], _∷_, _++_, append-assoc}
 use mathlib.Core.Logic.{⊎-elim}
 use native.Mathlib.Nat.{zero-add}
@@ -12,6 +12,7 @@ use Rattle.lent.proofs.Writes.{length-write-max}
 use Rattle.paper.specs.declared.sizes.Sizes.{Sizes}
 use Rattle.paper.specs.declared.sizes.Run.{Run}
 use Rattle.paper.specs.declared.refusal.Refusal.{Refusal}
+use Rattle.paper.specs.declared.answer.Opened.{Opened}
 use Rattle.paper.specs.declared.answer.Opened.the-variants.{Opens, Refused}
 use Rattle.paper.specs.Refusals.{numberOf, valueOf}
 use Rattle.paper.specs.Sizes.{capacityOf, Ranged}
@@ -101,9 +102,21 @@ lines-short f {z} o =
         let h : Lies z (runOf f z s) = inside-all (o .laid) s a (omega arith) in
         line-short s (runOf f z s) (omega arith) (omega (arith, lies-first z (runOf f z s) h)) (omega (arith, h .high))
 
--- so that with the head no text is longer than 90,000 bytes
 pub row-short : (f : List ℕ) {z : Sizes} → openOf f ≡ Opens z → (row : List ℕ) → Runs f z row (z .u) → length (piecesIn lineFor (rowRun row) (z .u)) ≤ 86016
 row-short f {z} o row rs = rw (same-pieces lineFor (rowRun row) (runOf f z) (z .u) (rs .run)) (lines-short f o)
+
+-- with the head no list is longer than 90,000 bytes
+pub list-short : (f : List ℕ) → length (listText f) ≤ 90000
+unfolding listText
+list-short f = go (openOf f) refl
+  where
+    go : (o : Opened) → openOf f ≡ o → length (textOf f o) ≤ 90000
+    go (Opens z) e =
+        let head = headOf (capacityOf z) (z .u) (length (slotsOf z (runOf f z))) in
+        let lines = piecesIn lineFor (runOf f z) (z .u) in
+        subst (λ (t : List ℕ). length t ≤ 90000) (opens-text f z)
+        (omega (arith, length-append head lines, head-short (capacityOf z) (z .u) (length (slotsOf z (runOf f z))), lines-short f e))
+    go (Refused r) e = omega (arith, refused-short (numberOf r) (valueOf r))
 
 -- ---- what was put is the text
 

@@ -3,17 +3,17 @@ ghost use mathlib.Core.Path.{_≡_};
 ghost use Prim.Native.Nat.{_+_, _≤_};
 ghost use lib.ListN.{length};
 ghost use Rattle.lent.specs.Write.{write};
-ghost use Rattle.paper.specs.Lister.{listText};
+ghost use Rattle.paper.specs.Lister.{listText, printed};
 ghost use Rattle.entries.specs.Row.{rowRun};
 ghost use Rattle.look.specs.Put.{Put};
 ghost use Rattle.look.specs.Rows.{pieceIf, piecesIn};
 ghost use Rattle.listing.specs.Text.{lineFor, refusedOf};
-use libc::STDOUT_FILENO;
 use paper::answer::Opened;
 use paper::refusal::Refusal;
 use paper::sizes::Run;
 
 pub mod put;
+pub mod shell;
 
 // The line of slot `s`, if it holds a scan.
 fn line(out: &mut [u8], at: usize, s: usize, a: Run) -> usize
@@ -50,14 +50,14 @@ fn refused(out: &mut [u8], r: Refusal) -> usize
     put::two(&mut *out, 0, b"refused ", r.number(), b" slot ", r.value())
 }
 
-// The whole text goes to the front of `out`; the answer is its length. No text is longer than 90,000 bytes.
-pub fn text(file: &[u8], out: &mut [u8]) -> usize
+// The list of a file, or its refusal, goes to the front of `out`; the answer is its length.
+fn text(file: &[u8], out: &mut [u8]) -> usize
     requires { ⌜ 90000 ≤ length (now out) ⌝ }
     ensures size { λ r. ⌜ r ≡ length (listText (now (file .entry))) ⌝ }
     ensures bytes { λ r. ⌜ now (out .exit) ≡ write (now (out .entry)) 0 (listText (now (file .entry))) ⌝ }
 {
     let mut row = [0u32; 8192];
-    let j = index::judged(file, &mut row);
+    let j = index::rowed::judged(file, &mut row);
     match j {
         Opened::Refused(r) => refused(&mut *out, r),
         Opened::Opens(z) => {
@@ -77,15 +77,15 @@ pub fn text(file: &[u8], out: &mut [u8]) -> usize
     }
 }
 
-// Reads what a descriptor gives, and prints its text, or that it is longer than 65,536 bytes.
-pub fn print(fd: i32) {
-    let mut file = [0u8; 65537];
-    let n = io::read_full(fd, &mut file);
-    if 65536 < n {
-        io::write_all(STDOUT_FILENO, b"too long\n");
-        return;
+// What the lister prints of its input goes to the front of `out`; the answer is its length. No text is longer than 90,000 bytes, so
+// that with an array of so many it asks nothing of its caller, and needs no answer for memory that is too short.
+pub fn printed(file: &[u8], out: &mut [u8; 90000]) -> usize
+    ensures size { λ r. ⌜ r ≡ length (printed (now (file .entry))) ⌝ }
+    ensures bytes { λ r. ⌜ now (out .exit) ≡ write (now (out .entry)) 0 (printed (now (file .entry))) ⌝ }
+{
+    if file.len() <= 65536 {
+        return text(file, &mut *out);
     }
-    let mut out = [0u8; 90000];
-    let k = text(&file[..n], &mut out);
-    io::write_all(STDOUT_FILENO, &out[..k]);
+    lent::write::copy_to(&mut *out, 0, b"too long\n");
+    9
 }

@@ -1,7 +1,8 @@
 //! The calls that look at a file and change nothing: list, entry, show and read.
 ghost use mathlib.Core.Path.{_≡_};
+ghost use Rattle.lent.specs.Part.{bytesOn};
 ghost use Rattle.paper.specs.Refusals.{listedSays, spanSays, takenSays, kindSays};
-ghost use Rattle.paper.specs.Scan.{partOf};
+ghost use Rattle.paper.specs.Scan.{partOf, spanPlace};
 ghost use Rattle.paper.specs.Look.{listedOf, listedOut, foundOf, showOf, readOf};
 use paper::answer::Listed;
 use paper::answer::Span;
@@ -39,7 +40,8 @@ pub fn show(file: &[u8], slot: usize) -> Span
 
 // That part of the file, empty where `show` refuses.
 pub fn show_part(file: &[u8], slot: usize) -> &[u8]
-    ensures { λ r. ⌜ now r ≡ partOf (now (file .entry)) (showOf (now (file .entry)) slot) ⌝ }
+    ensures bytes { λ r. ⌜ now r ≡ partOf (now (file .entry)) (showOf (now (file .entry)) slot) ⌝ }
+    ensures place { λ r. ⌜ r .ptr ≡ bytesOn (spanPlace (now (file .entry)) (showOf (now (file .entry)) slot)) (file .entry .ptr) ⌝ }
 {
     scan::spans::part_of(file, span::shown(file, slot))
 }
@@ -53,7 +55,8 @@ pub fn read(file: &[u8], slot: usize) -> Span
 
 // That part of the file, empty where `read` refuses.
 pub fn read_part(file: &[u8], slot: usize) -> &[u8]
-    ensures { λ r. ⌜ now r ≡ partOf (now (file .entry)) (readOf (now (file .entry)) slot) ⌝ }
+    ensures bytes { λ r. ⌜ now r ≡ partOf (now (file .entry)) (readOf (now (file .entry)) slot) ⌝ }
+    ensures place { λ r. ⌜ r .ptr ≡ bytesOn (spanPlace (now (file .entry)) (readOf (now (file .entry)) slot)) (file .entry .ptr) ⌝ }
 {
     scan::spans::part_of(file, span::scanned(file, slot))
 }

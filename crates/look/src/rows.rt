@@ -74,7 +74,7 @@ pub fn listed(file: &[u8], out: &mut [u32]) -> Listed
     ensures { λ r. ⌜ now (out .exit) ≡ listedOut (now (file .entry)) (now (out .entry)) ⌝ }
 {
     let mut row = [0u32; 8192];
-    let j = index::judged(file, &mut row);
+    let j = index::rowed::judged(file, &mut row);
     match j {
         Opened::Refused(r) => Listed::Refused(r),
         Opened::Opens(z) => {

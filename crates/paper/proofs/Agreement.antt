@@ -8,7 +8,6 @@ use borrow.Author.Tests.{lt-ltb, le-ltb, le-leb, eq-eqb, ne-eqb, ltb-true, leb-t
 use lib.ListN.{length, take, drop}
 use Rattle.lent.specs.Checks.{Fired, clear, fires, fired}
 use Rattle.lent.specs.Lists.{all}
-use Rattle.lent.specs.Part.{part}
 use Rattle.lent.specs.Write.{write, pad}
 use Rattle.lent.proofs.Lists.{all-true, true-all, true≢false, not-so, asked, answered}
 use Rattle.lent.proofs.Checks.{judge-clear}
@@ -22,10 +21,10 @@ use Rattle.paper.specs.declared.answer.Opened.the-variants.{Opens}
 use Rattle.paper.specs.declared.job.Job.{Job}
 use Rattle.paper.specs.declared.job.Step.{Step}
 use Rattle.paper.specs.declared.job.Step.the-variants.{Wrote, Refused}
-use Rattle.paper.specs.Sizes.{sizesOf, bootBytes, capacityOf, recordOf, startOf, homeOf, roomOf, bootChecks}
-use Rattle.paper.specs.Index.{bootOf, openOf, entryAt, Booted}
+use Rattle.paper.specs.Sizes.{sizesOf, bootBytes, recordOf, startOf, homeOf, bootChecks}
+use Rattle.paper.specs.Index.{bootOf, openOf, Booted}
 use Rattle.paper.specs.Store.{Write, perform, countOf, paddedOf, sizesAfter, entryAfter, writesOf}
-use Rattle.paper.specs.Step.{isClear, agreeTests, agrees, writeAt, hasLeft, stepFile, placed, moved, stepJob, standTests, stands, confirmOf, stepAnswer, steppedOf}
+use Rattle.paper.specs.Step.{isClear, agreeTests, agrees, writeAt, hasLeft, stepFile, placed, moved, stepJob, standTests, stands, confirmOf, stepAnswer, steppedOf, Agreeing, Standing}
 use Rattle.paper.proofs.Opening.{opens-clear, boot-sound, sound-boot}
 use Rattle.paper.proofs.Writes.{length-writes, writes-row, writes-boot, writes-entry, writes-past, row-saves, row-is}
 
@@ -43,19 +42,6 @@ unfolding bootOf
 booted-clear f z b = ap isClear (opens-clear (bootChecks f) (sizesOf f) z (sound-boot b) .0)
 
 -- ---- 14
-
--- what `agrees f scan j ≡ true` says, z being what the file's bootstrap says
-pub record Agreeing (f scan : List ℕ) (j : Job) (z : Sizes) : Type 0 where
-  pub booted : Booted f z
-  pub size : length scan ≡ j .size
-  pub span : length f ≡ j .span
-  pub begun : take 32 f ≡ j .boot
-  pub filled : j .saves ≡ true → 0 < length scan
-  pub low : 1 ≤ j .slot
-  pub high : j .slot ≤ capacityOf z
-  pub past : j .saves ≡ true → z .n < j .first
-  pub within : j .saves ≡ true → j .first + countOf z j ≤ roomOf z (length f) + 1
-  pub left : j .written ≤ countOf z j + 2
 
 module _ (f scan : List ℕ) (j : Job) where
   pub agreed : agrees f scan j ≡ true → Agreeing f scan j (sizesOf f)
@@ -204,11 +190,6 @@ module _ (f scan : List ℕ) (j : Job) (z : Sizes) (agree : agrees f scan j ≡ 
   answer-past h = step-answer ∙ rw (none-left h)
 
 -- ---- confirming
-
--- what `stands f scan j z ≡ true` says
-pub record Standing (f scan : List ℕ) (j : Job) (z : Sizes) : Type 0 where
-  pub entry : entryAt f z (j .slot) ≡ entryAfter z j
-  pub rows : part (startOf z (j .first)) (startOf z (j .first) + countOf z j * z .l) f ≡ paddedOf z j scan
 
 module _ (f scan : List ℕ) (j : Job) (z : Sizes) where
   pub stood : stands f scan j z ≡ true → Standing f scan j z

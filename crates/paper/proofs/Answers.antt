@@ -77,6 +77,9 @@ number-some r e =
     let k : numberOf r ≡ 1 = ap (λ (q : Refusal). numberOf q) t in
     omega arith
 
+pub refusal-only : (q r : Refusal) → refuses q ≡ refuses r → q ≡ r
+refusal-only = only refuses (λ s. refusalAt (s .number) (getD (s .values) 0 0)) undo
+
 -- ---- answers: number 0 and the values, or a refusal
 
 module _ {A : Type 0} (accept : List ℕ → A) (refuse : Refusal → A) where

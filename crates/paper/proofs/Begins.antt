@@ -30,13 +30,13 @@ use Rattle.paper.specs.declared.job.Job.{Job}
 use Rattle.paper.specs.Sizes.{sizesOf, capacityOf, startOf, roomOf}
 use Rattle.paper.specs.Index.{runOf, empty, Full, openChecks, openOf, Lies, Sound}
 use Rattle.paper.specs.Scan.{headlen, datalen, ruledOf}
-use Rattle.paper.specs.Look.{slotTests, noSlot, noScan, slotChecks}
+use Rattle.paper.specs.Look.{slotTests, noSlot, noScan, slotChecks, InIndex}
 use Rattle.paper.specs.Store.{recordsFor, runFrom, emptySlot, refused, accepted, placeFor, savesAt, saveJob, clearJob, reasonOf, scanChecks, saveOf, keepSlot, keepOf, clearOf, dataFrom, dataWrites, sizesAfter, entryAfter}
 use Rattle.paper.proofs.Opening.{full-facts, facts-full, full-holds, then-clear, then-opens, open-sound, empty-lies}
 use Rattle.paper.proofs.Rules.{keeps-lengths}
 use Rattle.paper.proofs.Reasons.{no-reason}
 use Rattle.paper.proofs.Writes.{enough, some-record}
-use Rattle.paper.proofs.Agreement.{Agreeing}
+use Rattle.paper.specs.Step.{Agreeing}
 use Rattle.paper.proofs.Encoding.{statedBy, length-entry, entry-states, zeros-state}
 use Rattle.paper.proofs.Free.{performs, FreeAt, place-free, free-nobody, room-in, used-room, data-free, data-all}
 use Rattle.paper.proofs.Bootstrap.{covers-more}
@@ -204,10 +204,6 @@ module _ (f scan : List ℕ) where
       all-clear (scanChecks f scan) (le-ltb 0 (reasonOf (ruledOf scan true)) (omega arith), (ne-eqb (placeFor f (length scan)) 0 (h .found), tt))
 
 -- 9: a slot of the index
-pub record InIndex (z : Sizes) (slot : ℕ) : Type 0 where
-  pub low : 1 ≤ slot
-  pub high : slot ≤ capacityOf z
-
 pub slot-facts : (z : Sizes) (slot : ℕ) → not (all (slotTests z slot)) ≡ false → InIndex z slot
 slot-facts z slot e =
     let t = all-true (slotTests z slot) (not-false _ e) in
@@ -268,7 +264,8 @@ keep-slotted f h =
     let l : Lowest (λ s. empty (runOf f z s)) (capacityOf z) (keepSlot f) = lowest-least refl (omega arith) in
     record { low = l .low; high = l .high }
 
-pub record ClearTaken (f : List ℕ) (slot : ℕ) : Type 0 where
+-- of entry, show, read and clear: a slot that holds a scan
+pub record SlotTaken (f : List ℕ) (slot : ℕ) : Type 0 where
   pub opens : openOf f ≡ Opens (sizesOf f)
   pub slotted : InIndex (sizesOf f) slot
   pub full : Full (runOf f (sizesOf f) slot)
@@ -277,14 +274,17 @@ module _ (f : List ℕ) (slot : ℕ) where
   abbrev ownChecks : List (Check Refusal)
   ownChecks = noSlot (sizesOf f) slot ∷ noScan (runOf f (sizesOf f) slot) ∷ []
 
-  pub clear-is-taken : clearOf f slot .answer ≡ Accepted → ClearTaken f slot
-  unfolding clearOf
-  clear-is-taken e =
-      let p = then-clear f ownChecks (taken-clear (slotChecks f slot) (clearJob f slot) e) in
+  pub slot-is-taken : fired (slotChecks f slot) ≡ clear → SlotTaken f slot
+  slot-is-taken e =
+      let p = then-clear f ownChecks e in
       let c = clear-all ownChecks (p .1) in
       record { opens = p .0; slotted = slot-facts (sizesOf f) slot (c .0); full = full-facts (runOf f (sizesOf f) slot) (c .1 .0) }
 
-  pub taken-is-clear : ClearTaken f slot → clearOf f slot ≡ accepted (clearJob f slot)
+  pub clear-is-taken : clearOf f slot .answer ≡ Accepted → SlotTaken f slot
+  unfolding clearOf
+  clear-is-taken e = slot-is-taken (taken-clear (slotChecks f slot) (clearJob f slot) e)
+
+  pub taken-is-clear : SlotTaken f slot → clearOf f slot ≡ accepted (clearJob f slot)
   unfolding clearOf
   taken-is-clear h =
       clear-taken (slotChecks f slot) (clearJob f slot)
@@ -307,5 +307,5 @@ module _ (f : List ℕ) where
   pub keep-begins : (scan about : List ℕ) → length about ≡ 54 → KeepTaken f scan → Begins (sizesOf f) f scan (saveJob f (keepSlot f) scan about)
   keep-begins scan about k54 h = save-begins-at (keepSlot f) scan about k54 (h .opens) (keep-slotted f (h .slotted)) (h .placed)
 
-  pub clear-begins : (slot : ℕ) → ClearTaken f slot → Begins (sizesOf f) f [] (clearJob f slot)
+  pub clear-begins : (slot : ℕ) → SlotTaken f slot → Begins (sizesOf f) f [] (clearJob f slot)
   clear-begins slot h = clear-ready (open-sound (h .opens)) slot (h .slotted .low) (h .slotted .high) (h .full)

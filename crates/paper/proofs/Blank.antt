@@ -20,18 +20,13 @@ use Rattle.paper.specs.declared.sizes.Sizes.{Sizes}
 use Rattle.paper.specs.declared.sizes.Run.{Run}
 use Rattle.paper.specs.declared.refusal.Refusal.{Refusal}
 use Rattle.paper.specs.declared.answer.Taken.the-variants.{Accepted, Refused}
-use Rattle.paper.specs.Sizes.{sizesOf, versionOf, bootBytes, capacityOf, homeOf, roomOf, Shaped, Ranged}
+use Rattle.paper.specs.Sizes.{sizesOf, versionOf, bootBytes, capacityOf, homeOf, roomOf, Ranged}
 use Rattle.paper.specs.Index.{runOf, Sound}
-use Rattle.paper.specs.Store.{blankSizes, blankTests, blankChecks, blankOf, blankFile, freeAt, freePlace}
+use Rattle.paper.specs.Store.{blankSizes, blankTests, blankChecks, blankOf, blankFile, freeAt, freePlace, Blankable}
 use Rattle.paper.proofs.Sizing.{head-long, home-end}
 use Rattle.paper.proofs.Opening.{shaped-facts, facts-shaped}
 use Rattle.paper.proofs.Encoding.{length-boot, sizes-back, version-back}
 use Rattle.paper.proofs.Free.{facts-free}
-
--- 16, in plain facts
-pub record Blankable (f : List ℕ) (z : Sizes) : Type 0 where
-  pub shape : Shaped z
-  pub fits : z .n * z .l ≤ length f
 
 module _ (f : List ℕ) (n l m : ℕ) where
   abbrev z : Sizes

@@ -1,53 +1,42 @@
 -- Where the classes and the data of a scan that keeps the rules lie: no class is empty, all lie between byte 32 and HEADLEN; then the data.
-use Prim.Native.Nat.{ℕ, zero, suc, _+_, _-_, _≤_, _<_}
-use mathlib.Core.Path.{_≡_, refl, sym, ap, subst}
-use mathlib.Core.Bool.{Bool, true, false}
+use Prim.Native.Nat.{ℕ, zero, suc, _+_, _-_, _*_, _≤_, _<_}
+use mathlib.Core.Path.{_≡_, refl, sym, _∙_, ap, subst}
+use mathlib.Core.Bool.{Bool, false}
 use mathlib.Core.List.{List}
 use native.Mathlib.Omega.{arith}
+use lib.IntN.{ℤ, pos}
 use mathlib.Core.Logic.{⊎-elim}
-use lib.IntN.{ℤ, pos, negsuc}
-use lib.ListN.{take, getD}
+use lib.ListN.{take}
 use lib.Seq.{length-take-le, getD-take}
-use lib.Signed.{ltZ}
-use borrow.Author.Tests.{ltb-true, eq-eqb, ne-eqb}
-use Rattle.lent.proofs.Lists.{true≢false, lt-or-ge, every-all}
+use borrow.Author.Tests.{le-leb, lt-leb, eq-eqb, ne-eqb}
+use Rattle.lent.specs.Number.{be16, int16}
+use Rattle.lent.proofs.Lists.{lt-or-ge, table-at}
 use Rattle.paper.specs.declared.answer.Ruled.the-variants.{Keeps, Breaks}
 use Rattle.paper.specs.declared.answer.Span.the-variants.{Part, Refused}
 use Rattle.paper.specs.declared.refusal.Refusal.the-variants.{BadScan}
 use Rattle.paper.specs.Entry.{naturalOf}
-use Rattle.paper.specs.Scan.{classesOf, startsOf, wordOf, rising, ruledOf, classAt, classEnd, classIn, classOf, dataOf}
-use Rattle.paper.proofs.Rules.{lastOf, Kept, kept, rules-same}
+use Rattle.paper.specs.Scan.{classesOf, startsOf, wordOf, ruledOf, classAt, classEnd, classIn, classOf, dataOf, lastOf, Kept}
+use Rattle.paper.proofs.Rules.{kept, rules-same}
 
 -- ---- the starts
 
-natural-less : (a b : ℤ) → ltZ a b ≡ true → 0 < naturalOf a → naturalOf a < naturalOf b
-natural-less (pos a) (pos b) e h = ltb-true a b e
-natural-less (pos a) (negsuc b) e h = absurd (true≢false e refl)
-natural-less (negsuc a) b e h = absurd (omega arith)
-
 module _ (s : List ℕ) {saving : Bool} {head rest : ℕ} (k : Kept s saving head rest) where
-  -- each is greater than the one before, and none is negative
-  pub start-next : (i : ℕ) → i + 1 < classesOf s → 0 < wordOf (startsOf s) i → wordOf (startsOf s) i < wordOf (startsOf s) (i + 1)
-  unfolding rising
-  start-next i h low =
-      natural-less (getD (startsOf s) i (pos 0)) (getD (startsOf s) (i + 1) (pos 0)) (every-all (classesOf s - 1) _ (k .three .2) i (omega arith)) low
-
-  pub start-later : (d i : ℕ) → i + d < classesOf s → 0 < wordOf (startsOf s) i → wordOf (startsOf s) i + d ≤ wordOf (startsOf s) (i + d)
-  start-later zero i h low = let e : i + 0 ≡ i = omega arith in rw e (omega arith)
-  start-later (suc d) i h low =
+  pub start-later : (d i : ℕ) → i + d < classesOf s → wordOf (startsOf s) i + d ≤ wordOf (startsOf s) (i + d)
+  start-later zero i h = let e : i + 0 ≡ i = omega arith in rw e (omega arith)
+  start-later (suc d) i h =
       let e : i + suc d ≡ i + d + 1 = omega arith in
-      let p = start-later d i (omega arith) low in
-      rw e (omega (arith, start-next (i + d) (omega arith) (omega arith)))
+      let p = start-later d i (omega arith) in
+      rw e (omega (arith, k .three .2 (i + d) (omega arith)))
 
   pub start-low : (i : ℕ) → i < classesOf s → 5 + i ≤ wordOf (startsOf s) i
-  start-low i h = let e : 0 + i ≡ i = omega arith in omega (arith, k .three .0, rw e at (start-later i 0 (omega arith) (omega (arith, k .three .0))))
+  start-low i h = let e : 0 + i ≡ i = omega arith in omega (arith, k .three .0, rw e at (start-later i 0 (omega arith)))
 
   -- so HEADLEN alone is as long as a scan must be
   pub last-long : 32 ≤ lastOf s
   last-long =
       let n = k .two .0 in
       let e : 1 + (classesOf s - 2) ≡ classesOf s - 1 = omega arith in
-      omega (arith, k .three .1, rw e at (start-later (classesOf s - 2) 1 (omega arith) (omega (arith, k .three .1))))
+      omega (arith, k .three .1, rw e at (start-later (classesOf s - 2) 1 (omega arith)))
 
   pub head-long : 256 ≤ head
   head-long = omega (arith, last-long, k .four .2, k .head-is)
@@ -80,8 +69,8 @@ module _ (s : List ℕ) {saving : Bool} {head rest : ℕ} (k : Kept s saving hea
           let a : number - 1 + 1 ≡ number = omega arith in
           let b : number + (classesOf s - 1 - number) ≡ classesOf s - 1 = omega arith in
           let l = low in
-          let n = rw a at (start-next (number - 1) (omega arith) (omega arith)) in
-          let m = rw b at (start-later (classesOf s - 1 - number) number (omega arith) (omega arith)) in
+          let n = rw a at (k .three .2 (number - 1) (omega arith)) in
+          let m = rw b at (start-later (classesOf s - 1 - number) number (omega arith)) in
           let e = class-next number h in
           record { from = omega arith; some = omega arith; to = omega (arith, k .four .2, k .head-is) }
 
@@ -92,6 +81,28 @@ module _ (s : List ℕ) {saving : Bool} {head rest : ℕ} (k : Kept s saving hea
           let q : classEnd (startsOf s) (classesOf s) head number ≡ head = subst (λ (x : ℕ). classEnd (startsOf s) (classesOf s) head x ≡ head) e class-last in
           let w : wordOf (startsOf s) (number - 1) ≡ lastOf s = ap (λ (x : ℕ). wordOf (startsOf s) (x - 1)) (sym e) in
           record { from = omega arith; some = omega (arith, k .four .2, k .head-is); to = omega arith }
+
+-- ---- a class by its number
+
+module _ (starts : List ℤ) (n head number : ℕ) where
+  pub class-here : 1 ≤ number → number ≤ n → classIn starts n head number ≡ Part (classAt starts (number - 1)) (classEnd starts n head number)
+  unfolding classIn
+  class-here a b = simp (le-leb 1 number a, le-leb number n b)
+
+  pub class-above : n < number → classIn starts n head number ≡ Part 0 0
+  unfolding classIn
+  class-above h = simp (le-leb 1 number (omega arith), lt-leb number n h)
+
+pub class-below : (starts : List ℤ) (n head : ℕ) → classIn starts n head 0 ≡ Part 0 0
+unfolding classIn
+class-below starts n head = refl
+
+-- "then fifteen class starts (Integer*2 each)": start k stands at byte 2 k
+pub start-at : (s : List ℕ) (k : ℕ) → 1 ≤ k → k ≤ 15 → wordOf (startsOf s) (k - 1) ≡ naturalOf (int16 (be16 s (2 * k)))
+unfolding startsOf
+start-at s k a b =
+    let e : 2 + 2 * (k - 1) ≡ 2 * k = omega arith in
+    ap naturalOf (table-at 15 (λ i. int16 (be16 s (2 + 2 * i))) (k - 1) (pos 0) (omega arith)) ∙ ap (λ (x : ℕ). naturalOf (int16 (be16 s x))) e
 
 -- ---- what a class and the data answer
 

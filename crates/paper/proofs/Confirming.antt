@@ -24,11 +24,11 @@ use Rattle.paper.specs.Sizes.{sizesOf, startOf}
 use Rattle.paper.specs.Index.{runOf, shownOf, entryAt, openOf}
 use Rattle.paper.specs.Entry.{entryBytes}
 use Rattle.paper.specs.Store.{recordsFor, runFrom, countOf, writesOf}
-use Rattle.paper.specs.Step.{agrees, hasLeft, writeAt, stands, confirmed, isConfirmed, confirmOf, stepAnswer}
+use Rattle.paper.specs.Step.{agrees, hasLeft, writeAt, stands, confirmed, isConfirmed, confirmOf, stepAnswer, Agreeing, Standing}
 use Rattle.paper.proofs.Opening.{open-reads}
 use Rattle.paper.proofs.Writes.{length-writes}
 use Rattle.paper.proofs.Encoding.{statedBy, entry-run, entry-states, zeros-state}
-use Rattle.paper.proofs.Agreement.{Agreeing, agreed, Standing, stood}
+use Rattle.paper.proofs.Agreement.{agreed, stood}
 
 -- job and file agree, no write is left, the file opens, and it holds what the job and the scan give
 pub record Confirms (f scan : List ℕ) (j : Job) (z : Sizes) : Type 0 where

@@ -6,6 +6,7 @@ pub mod Rules
 pub mod Reasons
 pub mod Answers
 pub mod Table
+pub mod Known
 pub mod Classes
 pub mod Encoding
 pub mod Frame

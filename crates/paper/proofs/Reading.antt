@@ -17,10 +17,10 @@ use Rattle.paper.specs.declared.answer.Span.the-variants.{Part, Refused}
 use Rattle.paper.specs.Sizes.{sizesOf, startOf}
 use Rattle.paper.specs.Index.{runOf, Full, shownOf, Sound}
 use Rattle.paper.specs.Scan.{ruledOf, partOf}
-use Rattle.paper.specs.Look.{noSlot, noScan, slotChecks, readIn, readOf}
+use Rattle.paper.specs.Look.{noSlot, noScan, slotChecks, readIn, readOf, InIndex}
 use Rattle.paper.proofs.Opening.{facts-full, then-opens, sound-open}
 use Rattle.paper.proofs.Rules.{rules-longer, keeps-lengths}
-use Rattle.paper.proofs.Begins.{InIndex, facts-slot}
+use Rattle.paper.proofs.Begins.{facts-slot}
 
 module _ {f : List ℕ} {z : Sizes} (S : Sound f z) (slot : ℕ) (i : InIndex z slot) where
   -- a slot with a scan: neither 9 nor 10

@@ -46,7 +46,7 @@ module _ (z : Sizes) (R : Shaped z) where
       multiple-next (placeOf z s) (z .l) (z .m) (omega arith) (mod-mod-of-dvd (z .m) ((s - 1) * z .m) d ∙ mul-mod-left (s - 1) (z .m)) (R .divides)
       (mod-lt ((s - 1) * z .m) (omega arith))
 
-  entry-length : (j : Job) → length (j .about) ≡ 54 → length (entryAfter z j) ≡ z .m
+  pub entry-length : (j : Job) → length (j .about) ≡ 54 → length (entryAfter z j) ≡ z .m
   entry-length j h =
       either-length (z .m) (j .saves) _ (zeros (z .m)) (length-entry z (runFrom (j .first) (countOf z j)) (j .about) h (omega arith)) (length-zeros (z .m))
 

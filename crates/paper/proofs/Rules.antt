@@ -1,26 +1,27 @@
 -- The laws of a scan's rules: what keeping them says in plain facts, both ways; which one is broken; and that they outlast a longer run.
-use Prim.Native.Nat.{ℕ, _+_, _-_, _*_, _%_, _≤_}
-use mathlib.Core.Path.{_≡_, refl, _∙_, ap}
+use Prim.Native.Nat.{ℕ, zero, suc, _+_, _-_, _*_, _≤_, _<_}
+use mathlib.Core.Path.{_≡_, refl, sym, _∙_, ap}
 use mathlib.Core.Bool.{Bool, true, false}
 use mathlib.Core.List.{List, _++_}
 use native.Mathlib.Omega.{arith}
 use lib.Dec.{leb, eqb}
-use lib.IntN.{ℤ}
-use lib.ListN.{length, length-append, List·getD-append}
-use borrow.Author.Tests.{leb-true, le-leb, eqb-true, eq-eqb, not-false}
+use lib.IntN.{ℤ, pos, negsuc}
+use lib.Signed.{ltZ}
+use lib.ListN.{length, getD, length-append, List·getD-append}
+use borrow.Author.Tests.{lt-ltb, ltb-true, leb-true, le-leb, eqb-true, eq-eqb, not-false}
 use Rattle.lent.specs.Number.{big, be16, be64, int16}
 use Rattle.lent.specs.Part.{Alike}
-use Rattle.lent.proofs.Lists.{true≢false, asked, answered, all-true, true-all, table-same}
+use Rattle.lent.proofs.Lists.{true≢false, asked, answered, all-true, true-all, every-all, all-every, table-same}
 use Rattle.lent.proofs.Checks.{clear-all, judge-passed}
 use Rattle.lent.proofs.Numbers.{number-same}
-use Rattle.whole.specs.Length.{lengthOf, sizeOf, isWhole}
+use Rattle.whole.specs.declared.Whole.the-variants.{Is}
+use Rattle.whole.specs.Length.{lengthOf, sizeOf}
+use Rattle.whole.proofs.Laws.{is-whole, whole-is}
 use Rattle.paper.specs.declared.answer.Ruled.the-variants.{Keeps, Breaks}
-use Rattle.paper.specs.Scan.{classesOf, startsOf, wordOf, headlen, datalen, rule1Tests, rule1, rule2Tests, rule2, rising, rule3Tests, rule3, rule4Tests, rule4, rule5Tests, rule5, rule6, ruleChecks, ruledOf, Lengths}
+use Rattle.paper.specs.Entry.{naturalOf}
+use Rattle.paper.specs.Scan.{classesOf, startsOf, wordOf, headlen, datalen, rule1Tests, rule1, rule2Tests, rule2, rising, rule3Tests, rule3, rule4Tests, rule4, rule5Tests, rule5, rule6, ruleChecks, ruledOf, lastOf, Rule1, Rule2, Rule3, Rule4, Rule5, Rule6, Kept, Lengths}
 
 -- ---- each rule in plain facts, both ways
-
-abbrev pub Rule1 : ℕ → Bool → Type 0
-Rule1 size saving = (256 ≤ size) × (saving ≡ true → size ≤ 65536)
 
 pub rule1-facts : (size : ℕ) (saving : Bool) → rule1 size saving ≡ true → Rule1 size saving
 unfolding rule1
@@ -34,9 +35,6 @@ facts-rule1 size saving f =
     true-all (rule1Tests size saving)
     (le-leb _ _ (f .0), (answered saving (leb size 65536) (λ h. le-leb _ _ (f .1 h)), tt))
 
-abbrev pub Rule2 : ℕ → Type 0
-Rule2 n = (13 ≤ n) × (n ≤ 15)
-
 pub rule2-facts : (n : ℕ) → rule2 n ≡ true → Rule2 n
 unfolding rule2
 rule2-facts n e = let a = all-true (rule2Tests n) e in (leb-true _ _ (a .0), leb-true _ _ (a .1 .0))
@@ -45,64 +43,72 @@ pub facts-rule2 : (n : ℕ) → Rule2 n → rule2 n ≡ true
 unfolding rule2
 facts-rule2 n f = true-all (rule2Tests n) (le-leb _ _ (f .0), (le-leb _ _ (f .1), tt))
 
-abbrev pub Rule3 : List ℤ → ℕ → Type 0
-Rule3 starts n = (wordOf starts 0 ≡ 5) × (21 ≤ wordOf starts 1) × (rising starts n ≡ true)
+-- a start after one that is not negative is not negative either, so rising integers are rising naturals
+natural-less : (a b : ℤ) → ltZ a b ≡ true → 0 < naturalOf a → naturalOf a < naturalOf b
+natural-less (pos a) (pos b) e h = ltb-true a b e
+natural-less (pos a) (negsuc b) e h = absurd (true≢false e refl)
+natural-less (negsuc a) b e h = absurd (omega arith)
 
-pub rule3-facts : (starts : List ℤ) (n : ℕ) → rule3 starts n ≡ true → Rule3 starts n
-unfolding rule3
-rule3-facts starts n e =
-    let a = all-true (rule3Tests starts n) e in
-    (eqb-true _ _ (a .0), leb-true _ _ (a .1 .0), a .1 .1 .0)
+less-natural : (a b : ℤ) → naturalOf a < naturalOf b → ltZ a b ≡ true
+less-natural (pos a) (pos b) h = lt-ltb a b h
+less-natural (negsuc a) (pos b) h = refl
+less-natural a (negsuc b) h = absurd (omega arith)
 
-pub facts-rule3 : (starts : List ℤ) (n : ℕ) → Rule3 starts n → rule3 starts n ≡ true
-unfolding rule3
-facts-rule3 starts n f =
-    true-all (rule3Tests starts n) (eq-eqb _ _ (f .0), (le-leb _ _ (f .1), (f .2, tt)))
+module _ (starts : List ℤ) (n : ℕ) where
+  next-less : rising starts n ≡ true → (k : ℕ) → k + 1 < n → 0 < wordOf starts k → wordOf starts k < wordOf starts (k + 1)
+  unfolding rising
+  next-less e k h low = natural-less (getD starts k (pos 0)) (getD starts (k + 1) (pos 0)) (every-all (n - 1) _ e k (omega arith)) low
 
-abbrev pub Rule4 : List ℕ → ℕ → Type 0
-Rule4 s last =
-    (isWhole (lengthOf (be64 s 32)) ≡ true) × (headlen s % 8 ≡ 0) × (8 * last ≤ headlen s) × (headlen s ≤ length s) × (headlen s ≤ 65536)
+  some-word : rising starts n ≡ true → wordOf starts 0 ≡ 5 → (k : ℕ) → k < n → 0 < wordOf starts k
+  some-word e s zero h = omega arith
+  some-word e s (suc k) h =
+      let q : suc k ≡ k + 1 = omega arith in
+      rw q (omega (arith, next-less e k (omega arith) (some-word e s k (omega arith))))
+
+  pub rule3-facts : rule3 starts n ≡ true → Rule3 starts n
+  unfolding rule3
+  rule3-facts e =
+      let a = all-true (rule3Tests starts n) e in
+      let s = eqb-true _ _ (a .0) in
+      (s, leb-true _ _ (a .1 .0), λ k h. next-less (a .1 .1 .0) k h (some-word (a .1 .1 .0) s k (omega arith)))
+
+  pub facts-rule3 : Rule3 starts n → rule3 starts n ≡ true
+  unfolding rule3 rising
+  facts-rule3 f =
+      true-all (rule3Tests starts n) (
+        eq-eqb _ _ (f .0),
+        (le-leb _ _ (f .1), (all-every (n - 1) _ (λ k h. less-natural (getD starts k (pos 0)) (getD starts (k + 1) (pos 0)) (f .2 k (omega arith))), tt)),
+      )
 
 module _ (s : List ℕ) (last : ℕ) where
   pub rule4-facts : rule4 s last ≡ true → Rule4 s last
   unfolding rule4
   rule4-facts e =
       let a = all-true (rule4Tests s last) e in
-      (a .0, eqb-true _ _ (a .1 .0), leb-true _ _ (a .1 .1 .0), leb-true _ _ (a .1 .1 .1 .0), leb-true _ _ (a .1 .1 .1 .1 .0))
+      (whole-is _ (a .0), eqb-true _ _ (a .1 .0), leb-true _ _ (a .1 .1 .0), leb-true _ _ (a .1 .1 .1 .0), leb-true _ _ (a .1 .1 .1 .1 .0))
 
   pub facts-rule4 : Rule4 s last → rule4 s last ≡ true
   unfolding rule4
-  facts-rule4 f = true-all (rule4Tests s last) (f .0, (eq-eqb _ _ (f .1), (le-leb _ _ (f .2), (le-leb _ _ (f .3), (le-leb _ _ (f .4), tt)))))
-
-abbrev pub Rule5 : List ℕ → Type 0
-Rule5 s =
-    (isWhole (lengthOf (be64 s 40)) ≡ true) × (datalen s % 4 ≡ 0) × (datalen s ≤ 65536) × (headlen s + datalen s ≤ length s)
+  facts-rule4 f = true-all (rule4Tests s last) (is-whole (f .0), (eq-eqb _ _ (f .1), (le-leb _ _ (f .2), (le-leb _ _ (f .3), (le-leb _ _ (f .4), tt)))))
 
 module _ (s : List ℕ) where
   pub rule5-facts : rule5 s ≡ true → Rule5 s
   unfolding rule5
-  rule5-facts e = let a = all-true (rule5Tests s) e in (a .0, eqb-true _ _ (a .1 .0), leb-true _ _ (a .1 .1 .0), leb-true _ _ (a .1 .1 .1 .0))
+  rule5-facts e = let a = all-true (rule5Tests s) e in (whole-is _ (a .0), eqb-true _ _ (a .1 .0), leb-true _ _ (a .1 .1 .0), leb-true _ _ (a .1 .1 .1 .0))
 
   pub facts-rule5 : Rule5 s → rule5 s ≡ true
   unfolding rule5
-  facts-rule5 f = true-all (rule5Tests s) (f .0, (eq-eqb _ _ (f .1), (le-leb _ _ (f .2), (le-leb _ _ (f .3), tt))))
+  facts-rule5 f = true-all (rule5Tests s) (is-whole (f .0), (eq-eqb _ _ (f .1), (le-leb _ _ (f .2), (le-leb _ _ (f .3), tt))))
 
-  abbrev pub Rule6 : Bool → Type 0
-  Rule6 saving = saving ≡ true → headlen s + datalen s ≡ length s
-
-  pub rule6-facts : (saving : Bool) → rule6 s saving ≡ true → Rule6 saving
+  pub rule6-facts : (saving : Bool) → rule6 s saving ≡ true → Rule6 s saving
   unfolding rule6
   rule6-facts saving e h = eqb-true _ _ (asked saving (eqb (headlen s + datalen s) (length s)) e h)
 
-  pub facts-rule6 : (saving : Bool) → Rule6 saving → rule6 s saving ≡ true
+  pub facts-rule6 : (saving : Bool) → Rule6 s saving → rule6 s saving ≡ true
   unfolding rule6
   facts-rule6 saving f = answered saving (eqb (headlen s + datalen s) (length s)) (λ h. eq-eqb _ _ (f h))
 
 -- ---- the rules in order
-
--- the last class's start
-abbrev pub lastOf : List ℕ → ℕ
-lastOf s = wordOf (startsOf s) (classesOf s - 1)
 
 pub never : {head rest : ℕ} (n : ℕ) → Breaks n ≡ Keeps head rest → ⊥
 never n e = let z : _≡_ {A = ℕ} 0 1 = cc in omega arith
@@ -142,17 +148,7 @@ module _ (s : List ℕ) (saving : Bool) where
             unfolding ruledOf
             keeps-all e = rw (one, two, three, four, five, e)
 
--- all that `ruledOf s saving ≡ Keeps head rest` says
-pub record Kept (s : List ℕ) (saving : Bool) (head rest : ℕ) : Type 0 where
-  pub one : Rule1 (length s) saving
-  pub two : Rule2 (classesOf s)
-  pub three : Rule3 (startsOf s) (classesOf s)
-  pub four : Rule4 s (lastOf s)
-  pub five : Rule5 s
-  pub six : Rule6 s saving
-  pub head-is : headlen s ≡ head
-  pub rest-is : datalen s ≡ rest
-
+-- all of them, both ways
 pub kept : {s : List ℕ} {saving : Bool} {head rest : ℕ} → ruledOf s saving ≡ Keeps head rest → Kept s saving head rest
 unfolding ruledOf
 kept {s} {saving} {head} {rest} e =
@@ -213,17 +209,17 @@ module _ (s t : List ℕ) (same : Alike s t 0 48) where
   kept-same {saving} {head} {rest} long within k =
       let a = k .four in
       let b = k .five in
-      let h : be64 t 32 ≡ be64 s 32 = be64-same 32 (omega arith) in
-      let r : be64 t 40 ≡ be64 s 40 = be64-same 40 (omega arith) in
-      let hs : headlen t ≡ headlen s = ap (λ (x : ℕ). sizeOf (lengthOf x)) h in
-      let rs : datalen t ≡ datalen s = ap (λ (x : ℕ). sizeOf (lengthOf x)) r in
+      let h : lengthOf (be64 t 32) ≡ lengthOf (be64 s 32) = ap lengthOf (be64-same 32 (omega arith)) in
+      let r : lengthOf (be64 t 40) ≡ lengthOf (be64 s 40) = ap lengthOf (be64-same 40 (omega arith)) in
+      let hs : headlen t ≡ headlen s = ap sizeOf h in
+      let rs : datalen t ≡ datalen s = ap sizeOf r in
       let l : lastOf t ≡ lastOf s = rw (classes-same, starts-same) in
       record {
         one = (long, λ q. absurd (true≢false q refl));
         two = rw classes-same (k .two);
         three = rw (classes-same, starts-same) (k .three);
-        four = (rw h (a .0), rw hs (a .1), omega arith, omega arith, omega arith);
-        five = (rw r (b .0), rw rs (b .1), omega arith, omega arith);
+        four = (h ∙ a .0 ∙ ap Is (sym hs), rw hs (a .1), omega arith, omega arith, omega arith);
+        five = (r ∙ b .0 ∙ ap Is (sym rs), rw rs (b .1), omega arith, omega arith);
         six = λ q. absurd (true≢false q refl);
         head-is = hs ∙ k .head-is;
         rest-is = rs ∙ k .rest-is;

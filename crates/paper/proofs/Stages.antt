@@ -17,11 +17,11 @@ use Rattle.paper.specs.Sizes.{bootBytes}
 use Rattle.paper.specs.Index.{entryAt}
 use Rattle.paper.specs.Entry.{entryBytes}
 use Rattle.paper.specs.Store.{Write, perform, countOf, sizesAfter, entryAfter, entryWrite, writesOf}
-use Rattle.paper.specs.Step.{agrees, noWrite, writeAt, stepFile, placed, stepJob, stands, confirmOf, stepAnswer}
+use Rattle.paper.specs.Step.{agrees, noWrite, writeAt, stepFile, placed, stepJob, stands, confirmOf, stepAnswer, Agreeing}
 use Rattle.paper.proofs.Sizing.{head-long}
 use Rattle.paper.proofs.Opening.{sound-open}
 use Rattle.paper.proofs.Writes.{writes-entry, writes-past}
-use Rattle.paper.proofs.Agreement.{Agreeing, agreeing, step-file, job-other, job-boot, job-past, answer-wrote, answer-past, standing}
+use Rattle.paper.proofs.Agreement.{agreeing, step-file, job-other, job-boot, job-past, answer-wrote, answer-past, standing}
 use Rattle.paper.proofs.Ready.{Ready, fileAt, file-next, rows-frame, rows-sound, late-sound, late-len, late-is, end-stays, end-entry, end-rows}
 
 -- the job after i steps: its place in the list, and the bootstrap that it was begun on or wrote

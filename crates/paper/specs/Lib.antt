@@ -6,4 +6,6 @@ pub mod Scan
 pub mod Look
 pub mod Store
 pub mod Step
+pub mod Numbers
 pub mod Lister
+pub mod Known

@@ -1,5 +1,5 @@
 -- 01, "What the tablet does with a file": list, entry, show and read, each with the refusals of open before its own.
-use Prim.Native.Nat.{ℕ, _+_, _*_}
+use Prim.Native.Nat.{ℕ, _+_, _*_, _≤_}
 use mathlib.Core.Bool.{Bool, false, not}
 use mathlib.Core.List.{List, [], _∷_, _++_}
 use lib.Dec.{ltb, leb}
@@ -80,3 +80,10 @@ unfoldable pub readOf : List ℕ → ℕ → Span
 readOf f s =
     judge Refused (slotChecks f s)
     (readIn (startOf (sizesOf f) (runOf f (sizesOf f) s .first)) (ruledOf (shownOf f (sizesOf f) s) false))
+
+-- ---- what the tests say, in plain facts
+
+-- a slot of the index: what `slotTests` says
+pub record InIndex (z : Sizes) (slot : ℕ) : Type 0 where
+  pub low : 1 ≤ slot
+  pub high : slot ≤ capacityOf z

@@ -1,5 +1,5 @@
 -- 01, "The scan": its preamble, its rules, its classes and its data, over a run of bytes.
-use Prim.Native.Nat.{ℕ, _+_, _-_, _*_, _%_, _≤_}
+use Prim.Native.Nat.{ℕ, zero, suc, _+_, _-_, _*_, _%_, _≤_, _<_}
 use mathlib.Core.Path.{_≡_}
 use mathlib.Core.Bool.{Bool, true, false, not, cond}
 use mathlib.Core.List.{List, [], _∷_}
@@ -10,7 +10,8 @@ use lib.Signed.{ltZ}
 use Rattle.lent.specs.Number.{be16, be64, int16}
 use Rattle.lent.specs.Lists.{table, every, all}
 use Rattle.lent.specs.Checks.{Check, check, judge}
-use Rattle.lent.specs.Part.{part}
+use Rattle.lent.specs.Part.{part, placeIn}
+use Rattle.whole.specs.declared.Whole.the-variants.{Is}
 use Rattle.whole.specs.Length.{lengthOf, sizeOf, isWhole}
 use Rattle.paper.specs.declared.answer.Ruled.{Ruled}
 use Rattle.paper.specs.declared.answer.Ruled.the-variants.{Keeps, Breaks}
@@ -137,7 +138,66 @@ abbrev pub partOf : List ℕ → Span → List ℕ
 partOf s (Part from to) = part from to s
 partOf s (Refused r) = []
 
--- what users of `ruledOf s saving ≡ Keeps head rest` need of the lengths
+-- at which byte of what was lent that part begins; at 0 where the call is refused
+abbrev pub spanPlace : List ℕ → Span → ℕ
+spanPlace s (Part from to) = placeIn from to s
+spanPlace s (Refused r) = 0
+
+-- ---- the rules in plain facts
+
+-- the last class's start
+abbrev pub lastOf : List ℕ → ℕ
+lastOf s = wordOf (startsOf s) (classesOf s - 1)
+
+-- 1. "S is at least 256, and at most 65,536 when saving"
+abbrev pub Rule1 : ℕ → Bool → Type 0
+Rule1 size saving = (256 ≤ size) × (saving ≡ true → size ≤ 65536)
+
+-- 2. "13 to 15 classes"
+abbrev pub Rule2 : ℕ → Type 0
+Rule2 n = (13 ≤ n) × (n ≤ 15)
+
+-- 3. "Start 1 is 5, start 2 is at least 21, each start is greater than the one before"
+abbrev pub Rule3 : List ℤ → ℕ → Type 0
+Rule3 starts n = (wordOf starts 0 ≡ 5) × (21 ≤ wordOf starts 1) × ((k : ℕ) → k + 1 < n → wordOf starts k < wordOf starts (k + 1))
+
+-- 4. "HEADLEN is a whole number, a multiple of 8, at least 8 times the last class's start, at most S and at most 65,536"
+abbrev pub Rule4 : List ℕ → ℕ → Type 0
+Rule4 s last =
+    (lengthOf (be64 s 32) ≡ Is (headlen s)) × (headlen s % 8 ≡ 0) × (8 * last ≤ headlen s) × (headlen s ≤ length s) × (headlen s ≤ 65536)
+
+-- 5. "DATALEN is a whole number, a multiple of 4, at most 65,536, and HEADLEN + DATALEN is at most S"
+abbrev pub Rule5 : List ℕ → Type 0
+Rule5 s =
+    (lengthOf (be64 s 40) ≡ Is (datalen s)) × (datalen s % 4 ≡ 0) × (datalen s ≤ 65536) × (headlen s + datalen s ≤ length s)
+
+-- 6. "When saving, HEADLEN + DATALEN equals S"
+abbrev pub Rule6 : List ℕ → Bool → Type 0
+Rule6 s saving = saving ≡ true → headlen s + datalen s ≡ length s
+
+-- rule n of 1 to 6; there is no other to be broken
+abbrev pub Rule : List ℕ → Bool → ℕ → Type 0
+Rule s saving zero = Unit
+Rule s saving (suc zero) = Rule1 (length s) saving
+Rule s saving (suc (suc zero)) = Rule2 (classesOf s)
+Rule s saving (suc (suc (suc zero))) = Rule3 (startsOf s) (classesOf s)
+Rule s saving (suc (suc (suc (suc zero)))) = Rule4 s (lastOf s)
+Rule s saving (suc (suc (suc (suc (suc zero))))) = Rule5 s
+Rule s saving (suc (suc (suc (suc (suc (suc zero)))))) = Rule6 s saving
+Rule s saving (suc (suc (suc (suc (suc (suc (suc n))))))) = Unit
+
+-- what `ruledOf s saving ≡ Keeps head rest` says
+pub record Kept (s : List ℕ) (saving : Bool) (head rest : ℕ) : Type 0 where
+  pub one : Rule1 (length s) saving
+  pub two : Rule2 (classesOf s)
+  pub three : Rule3 (startsOf s) (classesOf s)
+  pub four : Rule4 s (lastOf s)
+  pub five : Rule5 s
+  pub six : Rule6 s saving
+  pub head-is : headlen s ≡ head
+  pub rest-is : datalen s ≡ rest
+
+-- and of the lengths alone
 pub record Lengths (s : List ℕ) (saving : Bool) (head rest : ℕ) : Type 0 where
   pub head-is : headlen s ≡ head
   pub rest-is : datalen s ≡ rest

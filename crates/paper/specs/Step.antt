@@ -1,5 +1,6 @@
 -- 01, "A save, record by record": one step of a job, for any file, scan and job: the file, the job and the answer after it.
-use Prim.Native.Nat.{ℕ, _+_, _*_}
+use Prim.Native.Nat.{ℕ, _+_, _*_, _≤_, _<_}
+use mathlib.Core.Path.{_≡_}
 use mathlib.Core.Bool.{Bool, true, false, cond}
 use mathlib.Core.List.{List, [], _∷_}
 use lib.Dec.{ltb, leb, eqb}
@@ -18,7 +19,7 @@ use Rattle.paper.specs.declared.job.Step.{Step}
 use Rattle.paper.specs.declared.job.Step.the-variants.{Wrote, Saved, Cleared, Refused}
 use Rattle.paper.specs.declared.job.Stepped.{Stepped}
 use Rattle.paper.specs.Sizes.{sizesOf, bootBytes, capacityOf, startOf, roomOf, bootChecks}
-use Rattle.paper.specs.Index.{openOf, entryAt}
+use Rattle.paper.specs.Index.{openOf, entryAt, Booted}
 use Rattle.paper.specs.Store.{Write, perform, countOf, paddedOf, sizesAfter, entryAfter, writesOf}
 
 -- no refusal fired
@@ -108,3 +109,23 @@ stepAnswer f scan j =
 
 unfoldable pub steppedOf : List ℕ → List ℕ → Job → Stepped
 steppedOf f scan j = record { answer = stepAnswer f scan j; job = stepJob f scan j }
+
+-- ---- what the tests say, in plain facts
+
+-- what `agrees f scan j ≡ true` says, z being what the file's bootstrap says
+pub record Agreeing (f scan : List ℕ) (j : Job) (z : Sizes) : Type 0 where
+  pub booted : Booted f z
+  pub size : length scan ≡ j .size
+  pub span : length f ≡ j .span
+  pub begun : take 32 f ≡ j .boot
+  pub filled : j .saves ≡ true → 0 < length scan
+  pub low : 1 ≤ j .slot
+  pub high : j .slot ≤ capacityOf z
+  pub past : j .saves ≡ true → z .n < j .first
+  pub within : j .saves ≡ true → j .first + countOf z j ≤ roomOf z (length f) + 1
+  pub left : j .written ≤ countOf z j + 2
+
+-- what `stands f scan j z ≡ true` says
+pub record Standing (f scan : List ℕ) (j : Job) (z : Sizes) : Type 0 where
+  pub entry : entryAt f z (j .slot) ≡ entryAfter z j
+  pub rows : part (startOf z (j .first)) (startOf z (j .first) + countOf z j * z .l) f ≡ paddedOf z j scan

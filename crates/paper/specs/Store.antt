@@ -1,5 +1,5 @@
 -- 01, "A save, record by record": blank; what save, keep and clear answer, the job that they hand back, and the writes that the job stands for.
-use Prim.Native.Nat.{ℕ, zero, suc, _+_, _-_, _*_, _/_, _%_, max}
+use Prim.Native.Nat.{ℕ, zero, suc, _+_, _-_, _*_, _/_, _%_, _≤_, max}
 use mathlib.Core.Bool.{Bool, true, false, not, cond}
 use mathlib.Core.List.{List, [], _∷_, _++_}
 use lib.Dec.{ltb, leb, eqb}
@@ -18,7 +18,7 @@ use Rattle.paper.specs.declared.answer.Taken.{Taken}
 use Rattle.paper.specs.declared.answer.Taken.the-variants.{Accepted, Refused}
 use Rattle.paper.specs.declared.job.Job.{Job}
 use Rattle.paper.specs.declared.job.Begun.{Begun}
-use Rattle.paper.specs.Sizes.{sizesOf, bootBytes, renewed, capacityOf, recordOf, startOf, homeOf, roomOf, shaped}
+use Rattle.paper.specs.Sizes.{sizesOf, bootBytes, renewed, capacityOf, recordOf, startOf, homeOf, roomOf, shaped, Shaped}
 use Rattle.paper.specs.Index.{runOf, empty, sharer, openChecks}
 use Rattle.paper.specs.Entry.{entryBytes}
 use Rattle.paper.specs.Scan.{ruledOf}
@@ -43,6 +43,11 @@ blankOf f n l m = judge Refused (blankChecks f (blankSizes n l m)) Accepted
 -- "Blank writes N records, .. zeros after word 8, and touches nothing beyond"
 unfoldable pub blankFile : List ℕ → ℕ → ℕ → ℕ → List ℕ
 blankFile f n l m = judge (λ r. f) (blankChecks f (blankSizes n l m)) (write f 0 (pad (n * l) (bootBytes (blankSizes n l m))))
+
+-- what may be blanked, in plain facts
+pub record Blankable (f : List ℕ) (z : Sizes) : Type 0 where
+  pub shape : Shaped z
+  pub fits : z .n * z .l ≤ length f
 
 -- ---- beginning
 

@@ -1,6 +1,6 @@
 -- The laws of the two lengths as their rules leave them: a return of rules 4 and 5 each.
 use Prim.Native.Nat.{ℕ, _+_, _*_, _%_, _≤_}
-use mathlib.Core.Path.{_≡_, refl, sym}
+use mathlib.Core.Path.{_≡_, refl, sym, _∙_, ap}
 use mathlib.Core.Bool.{Bool, true, false, cond}
 use mathlib.Core.List.{List}
 use native.Mathlib.Omega.{arith}
@@ -12,8 +12,8 @@ use Rattle.whole.specs.Number.{upTo}
 use Rattle.whole.specs.Length.{lengthOf}
 use Rattle.whole.proofs.Laws.{is-whole, is-size, is-up-to, not-up-to}
 use Rattle.paper.specs.declared.answer.Ruled.the-variants.{Keeps}
-use Rattle.paper.specs.Scan.{headlen, datalen, rule4, rule5, rule6}
-use Rattle.paper.proofs.Rules.{Rule4, Rule5, rule4-facts, facts-rule4, rule5-facts, facts-rule5}
+use Rattle.paper.specs.Scan.{headlen, datalen, rule4, rule5, rule6, Rule4, Rule5}
+use Rattle.paper.proofs.Rules.{rule4-facts, facts-rule4, rule5-facts, facts-rule5}
 use Rattle.scan.specs.Lengths.{headKept, restKept, fills}
 
 -- a length where the rule is kept, and none where it is broken
@@ -38,7 +38,7 @@ module _ (s : List ℕ) (last : ℕ) where
 
   -- no whole number up to 65,536
   pub head-unread : upTo 65536 (lengthOf (be64 s 32)) ≡ Not → Not ≡ headKept s last
-  head-unread e = no-head (λ f. omega (arith, not-up-to (lengthOf (be64 s 32)) e (f .0), f .4))
+  head-unread e = no-head (λ f. omega (arith, not-up-to (lengthOf (be64 s 32)) e (is-whole (f .0)), f .4))
 
   module _ (head : ℕ) (e : upTo 65536 (lengthOf (be64 s 32)) ≡ Is head) where
     pub head-read : (headlen s ≡ head) × (head ≤ 65536)
@@ -48,7 +48,7 @@ module _ (s : List ℕ) (last : ℕ) where
     yes-head a b c =
         let w = is-up-to e in
         let q = is-size (w .0) in
-        some (rule4 s last) head (headlen s) (facts-rule4 s last (is-whole (w .0), rw q a, omega arith, omega arith, omega arith)) (sym q)
+        some (rule4 s last) head (headlen s) (facts-rule4 s last (w .0 ∙ ap Is (sym q), rw q a, omega arith, omega arith, omega arith)) (sym q)
 
   pub head-kept : (head : ℕ) → headKept s last ≡ Is head → (rule4 s last ≡ true) × (headlen s ≡ head)
   head-kept head e = some-kept (rule4 s last) head (headlen s) e
@@ -61,7 +61,7 @@ module _ (s : List ℕ) where
   no-rest h = none (rule5 s) (datalen s) (λ e. h (rule5-facts s e))
 
   pub rest-unread : upTo 65536 (lengthOf (be64 s 40)) ≡ Not → Not ≡ restKept s
-  rest-unread e = no-rest (λ f. omega (arith, not-up-to (lengthOf (be64 s 40)) e (f .0), f .2))
+  rest-unread e = no-rest (λ f. omega (arith, not-up-to (lengthOf (be64 s 40)) e (is-whole (f .0)), f .2))
 
   module _ (rest : ℕ) (e : upTo 65536 (lengthOf (be64 s 40)) ≡ Is rest) where
     pub rest-read : (datalen s ≡ rest) × (rest ≤ 65536)
@@ -71,7 +71,7 @@ module _ (s : List ℕ) where
     yes-rest a b =
         let w = is-up-to e in
         let q = is-size (w .0) in
-        some (rule5 s) rest (datalen s) (facts-rule5 s (is-whole (w .0), rw q a, omega arith, omega arith)) (sym q)
+        some (rule5 s) rest (datalen s) (facts-rule5 s (w .0 ∙ ap Is (sym q), rw q a, omega arith, omega arith)) (sym q)
 
   pub rest-kept : (rest : ℕ) → restKept s ≡ Is rest → (rule5 s ≡ true) × (datalen s ≡ rest)
   rest-kept rest e = some-kept (rule5 s) rest (datalen s) e

@@ -1,7 +1,8 @@
 //! Where a class and the data lie in a run of bytes.
 ghost use mathlib.Core.Path.{_≡_};
 ghost use Prim.Native.Nat.{_≤_, _<_};
-ghost use Rattle.paper.specs.Scan.{classAt, classIn, classOf, dataOf, partOf};
+ghost use Rattle.lent.specs.Part.{bytesOn};
+ghost use Rattle.paper.specs.Scan.{classAt, classIn, classOf, dataOf, partOf, spanPlace};
 use super::preamble;
 use super::rules;
 use lent::part;
@@ -63,7 +64,8 @@ pub fn data_span(s: &[u8]) -> Span
 
 // The part that a span names; nothing where it is a refusal.
 pub fn part_of(s: &[u8], span: Span) -> &[u8]
-    ensures { λ r. ⌜ now r ≡ partOf (now (s .entry)) span ⌝ }
+    ensures bytes { λ r. ⌜ now r ≡ partOf (now (s .entry)) span ⌝ }
+    ensures place { λ r. ⌜ r .ptr ≡ bytesOn (spanPlace (now (s .entry)) span) (s .entry .ptr) ⌝ }
 {
     match span {
         Span::Part(from, to) => part::part(s, from, to),

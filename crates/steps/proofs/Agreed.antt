@@ -16,11 +16,11 @@ use Rattle.paper.specs.Sizes.{sizesOf, roomOf, Shaped}
 use Rattle.paper.specs.Index.{Booted}
 use Rattle.paper.specs.Store.{recordsFor, countOf}
 use Rattle.paper.specs.Look.{slotTests}
-use Rattle.paper.specs.Step.{agrees}
+use Rattle.paper.specs.Step.{agrees, Agreeing}
 use Rattle.paper.proofs.Opening.{range-facts, facts-range}
 use Rattle.paper.proofs.Sizing.{less, home-in, slotted}
 use Rattle.paper.proofs.Writes.{some-record, row-saves}
-use Rattle.paper.proofs.Agreement.{Agreeing, agreeing, disagreeing}
+use Rattle.paper.proofs.Agreement.{agreeing, disagreeing}
 use Rattle.steps.specs.Tests.{fileTests, sameFile, bootTests, bootHolds, hasSlot, fitTests, saveFits, recordsFit}
 use Rattle.writes.specs.Inside.{Placed, Homed, Rowed}
 use Rattle.writes.proofs.Counts.{count-save, count-clear}

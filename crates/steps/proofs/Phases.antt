@@ -21,12 +21,12 @@ use Rattle.paper.specs.Refusals.{stepSays}
 use Rattle.paper.specs.Sizes.{sizesOf, startOf, recordOf, homeOf, bootBytes, Shaped}
 use Rattle.paper.specs.Index.{openOf, Booted}
 use Rattle.paper.specs.Store.{countOf, sizesAfter, entryAfter}
-use Rattle.paper.specs.Step.{agrees, stepFile, stepJob, stepAnswer, confirmOf, steppedOf}
+use Rattle.paper.specs.Step.{agrees, stepFile, stepJob, stepAnswer, confirmOf, steppedOf, Agreeing}
 use Rattle.paper.proofs.Encoding.{length-boot}
 use Rattle.paper.proofs.Opening.{open-sound}
 use Rattle.paper.proofs.Sizing.{times}
 use Rattle.paper.proofs.Writes.{row-saves}
-use Rattle.paper.proofs.Agreement.{Agreeing, agreed, file-refused, job-refused, answer-refused, step-row, step-boot, step-entry, step-past, job-other, job-boot, job-past, answer-row, answer-boot, answer-entry, answer-past, stepped}
+use Rattle.paper.proofs.Agreement.{agreed, file-refused, job-refused, answer-refused, step-row, step-boot, step-entry, step-past, job-other, job-boot, job-past, answer-row, answer-boot, answer-entry, answer-past, stepped}
 use Rattle.writes.specs.Inside.{Homed, wroteOne}
 use Rattle.steps.specs.Answers.{disagreed}
 use Rattle.steps.proofs.Agreed.{homed, rowed}

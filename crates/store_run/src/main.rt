@@ -113,7 +113,7 @@ fn scan_of(high: u32) -> [u8; 1024] {
 // What the lister prints of the file.
 fn list(file: &[u8]) {
     let mut out = [0u8; 90000];
-    let n = listing::text(file, &mut out);
+    let n = listing::printed(file, &mut out);
     io::write_all(1, lent::part::part(&out, 0, n));
 }
 

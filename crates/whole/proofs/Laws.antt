@@ -17,6 +17,11 @@ pub is-size : {n : ℕ} {w : Whole} → w ≡ Is n → sizeOf w ≡ n
 unfolding sizeOf
 is-size e = ap sizeOf e
 
+pub whole-is : (w : Whole) → isWhole w ≡ true → w ≡ Is (sizeOf w)
+unfolding isWhole sizeOf
+whole-is (Is n) e = refl
+whole-is Not e = absurd (true≢false (sym e))
+
 no-size : {n : ℕ} → Not ≡ Is n → ⊥
 unfolding isWhole
 no-size e = true≢false (sym (is-whole e))

@@ -7,7 +7,7 @@ ghost use mathlib.Core.List.{[], _∷_, _++_};
 ghost use Rattle.lent.specs.Number.{words};
 ghost use Rattle.lent.specs.Same.{same};
 ghost use Rattle.lent.specs.Write.{write};
-ghost use Rattle.paper.specs.Sizes.{homeOf, Shaped};
+ghost use Rattle.paper.specs.Sizes.{homeOf, Shaped, Slotted};
 ghost use Rattle.paper.specs.Index.{entryAt};
 ghost use Rattle.paper.specs.Store.{entryAfter};
 ghost use Rattle.writes.specs.Inside.{Placed, Homed, frontOf};
@@ -34,12 +34,20 @@ fn front_of(z: Sizes, j: Job) -> [u8; 62]
     front(j.first as u32, last as u32, about)
 }
 
+// "The home of a slot": in its record, at its place there.
+fn home(z: Sizes, slot: usize) -> usize
+    requires { ⌜ Slotted z slot ⌝ }
+    ensures { λ r. ⌜ r ≡ homeOf z slot ⌝ }
+{
+    (z.record(slot) - 1) * z.l + z.place(slot)
+}
+
 // The entry that the job writes, in its place.
 pub fn put_entry(file: &mut [u8], z: Sizes, j: Job)
     requires { ⌜ Homed (now file) z j ⌝ }
     ensures { λ _. ⌜ now (file .exit) ≡ write (now (file .entry)) (homeOf z (j .slot)) (entryAfter z j) ⌝ }
 {
-    let at = z.home(j.slot);
+    let at = home(z, j.slot);
     if j.saves {
         let b = front_of(z, j);
         lent::write::put_padded(file, at, z.m, &b);

@@ -14,10 +14,10 @@ add-t11 : tie.Need-add-t11
 add-t11 c = let k = keeps-lengths (sym (c .before .before .before .judge .ensures) ∙ c .before .ruled .given .1) in omega arith
 
 returns : tie.Need-returns
-returns c = rw (sym (ap (λ s. ruledOf s false) (c .before .before .before .before .part .ensures)) ∙ sym (c .before .before .before .judge .ensures) ∙ c .before .ruled .given .1)
+returns c = rw (sym (ap (λ s. ruledOf s false) (c .before .before .before .before .part .ensures .0)) ∙ sym (c .before .before .before .judge .ensures) ∙ c .before .ruled .given .1)
 
 returns-2 : tie.Need-returns-2
-returns-2 c = rw (sym (ap (λ s. ruledOf s false) (c .before .before .before .before .part .ensures)) ∙ sym (c .before .before .before .judge .ensures) ∙ c .before .ruled2 .given .1)
+returns-2 c = rw (sym (ap (λ s. ruledOf s false) (c .before .before .before .before .part .ensures .0)) ∙ sym (c .before .before .before .judge .ensures) ∙ c .before .ruled2 .given .1)
 
 pub scan-in-spec : {M : Type 1} → statement M
 scan-in-spec =

@@ -8,8 +8,8 @@ use lib.IntN.{ℤ}
 use lib.ListN.{length}
 use borrow.Author.Tests.{not-true, not-false}
 use borrow.Author.Needs.{needs}
-use Rattle.paper.specs.Scan.{classesOf, startsOf, wordOf, headlen, datalen, rule1, rule2, rule3, rule4, rule5}
-use Rattle.paper.proofs.Rules.{lastOf, Rule2, rule2-facts, rule4-facts, rule5-facts, breaks-1, breaks-2, breaks-3, breaks-4, breaks-5, breaks-6, keeps-all}
+use Rattle.paper.specs.Scan.{classesOf, startsOf, wordOf, headlen, datalen, rule1, rule2, rule3, rule4, rule5, lastOf, Rule2}
+use Rattle.paper.proofs.Rules.{rule2-facts, rule4-facts, rule5-facts, breaks-1, breaks-2, breaks-3, breaks-4, breaks-5, breaks-6, keeps-all}
 use Rattle.scan.proofs.Lengths.{summed, kept-both, head-kept, head-broken, rest-kept, rest-broken}
 use Rattle.scan.specs.Lengths.{headKept}
 use Rattle.scan.proofs.rules.judge.Statement.{statement}

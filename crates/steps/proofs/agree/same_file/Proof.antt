@@ -19,13 +19,13 @@ returns-2 c = let a = c .before .before .before .before .before .before .args in
 returns-3 : tie.Need-returns-3
 unfolding sameFile
 returns-3 c = let a = c .before .before .before .before .before .before .before .before .before .before .before .args in
-    let e = c .before .same .ensures ∙ ap (λ p. same p (a .j .boot)) (c .before .before .before .part .ensures) in
+    let e = c .before .same .ensures ∙ ap (λ p. same p (a .j .boot)) (c .before .before .before .part .ensures .0) in
     no-all (fileTests (a .file .now) (a .scan .now) (a .j)) (λ t. true≢false (t .1 .1 .0) (sym e ∙ not-true _ (c .if3 .taken)))
 
 returns-4 : tie.Need-returns-4
 unfolding sameFile
 returns-4 c = let a = c .before .before .before .before .before .before .before .before .before .before .before .args in
-    let e = c .before .same .ensures ∙ ap (λ p. same p (a .j .boot)) (c .before .before .before .part .ensures) in
+    let e = c .before .same .ensures ∙ ap (λ p. same p (a .j .boot)) (c .before .before .before .part .ensures .0) in
     yes-all (fileTests (a .file .now) (a .scan .now) (a .j))
     (eq-eqb _ _ (c .before .before .before .before .before .before .before .if1 .left), (eq-eqb _ _ (c .before .before .before .before .before .if2 .left), (sym e ∙ not-false _ (c .if3 .left), tt)))
 

@@ -26,7 +26,7 @@ add-part c = omega (arith, spanned (c .before .before .before .before .before .b
 returns-2 : tie.Need-returns-2
 returns-2 c = let a = c .before .before .before .before .before .before .before .before .before .before .before .args in
     records-compared (a .file .now) (a .scan .now) (a .j) (a .z) (sym (c .before .before .before .before .before .before .before .before .entry-stands .ensures) ∙ not-false _ (c .before .before .before .before .before .before .before .if1 .left)) (c .before .before .before .before .before .before .if2 .taken)
-    _ _ _ (c .before .before .before .records .ensures) (c .before .part .ensures) (c .same-padded .ensures)
+    _ _ _ (c .before .before .before .records .ensures) (c .before .part .ensures .0) (c .same-padded .ensures)
 
 returns-3 : tie.Need-returns-3
 returns-3 c = let a = c .before .before .before .before .before .args in nothing-compared (a .file .now) (a .scan .now) (a .j) (a .z) (sym (c .before .before .entry-stands .ensures) ∙ not-false _ (c .before .if1 .left)) (c .if2 .left)

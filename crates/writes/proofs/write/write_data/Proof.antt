@@ -8,7 +8,7 @@ use Rattle.writes.proofs.write.write_data.Statement.{statement}
 use Rattle.writes.proofs.write.write_data.Tie as tie
 
 put-padded-requires : tie.Need-put-padded-requires
-put-padded-requires c κs = let a = c .before .before .before .before .before .before .args in (search needs, omega (arith, ap length (c .before .part .ensures), length-part-min (a .j .written * a .z .l) (a .j .written * a .z .l + a .z .l) (a .scan .now)))
+put-padded-requires c κs = let a = c .before .before .before .before .before .before .args in (search needs, omega (arith, ap length (c .before .part .ensures .0), length-part-min (a .j .written * a .z .l) (a .j .written * a .z .l + a .z .l) (a .scan .now)))
 
 returns : tie.Need-returns
 returns c = (cc, cc)

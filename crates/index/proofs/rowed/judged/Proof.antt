@@ -1,8 +1,8 @@
 use Rattle.index.proofs.Answers.{booted, judged-refused, judged-row}
 use native.Mathlib.Omega.{arith}
 use borrow.Author.Needs.{needs}
-use Rattle.index.proofs.judged.Statement.{statement}
-use Rattle.index.proofs.judged.Tie as tie
+use Rattle.index.proofs.rowed.judged.Statement.{statement}
+use Rattle.index.proofs.rowed.judged.Tie as tie
 
 returns : tie.Need-returns
 returns c = judged-refused _ _ _ _ (c .before .before .boot .ensures) (c .enum-told .given .1)

@@ -1,0 +1,74 @@
+-- Demand 2, of a beginning: the job that an accepted save, keep or clear hands back, and what its record 1 says, in plain facts.
+use Prim.Native.Nat.{ℕ, _+_, _-_, _%_, _≤_, _<_, max}
+use mathlib.Core.Path.{_≡_}
+use mathlib.Core.Bool.{true, false}
+use mathlib.Core.List.{List}
+use lib.ListN.{length, take, replicate}
+use Rattle.paper.specs.declared.sizes.Sizes.{Sizes}
+use Rattle.paper.specs.declared.answer.Opened.the-variants.{Opens}
+use Rattle.paper.specs.declared.answer.Taken.the-variants.{Accepted}
+use Rattle.paper.specs.declared.job.Job.{Job}
+use Rattle.paper.specs.Sizes.{sizesOf, renewed}
+use Rattle.paper.specs.Index.{runOf, Full, openOf}
+use Rattle.paper.specs.Look.{InIndex}
+use Rattle.paper.specs.Store.{recordsFor, saveOf, keepOf, clearOf}
+use Rattle.demands.specs.Causes.{FreeRun}
+use Rattle.demands.specs.History.{Op, save, keep, clear, Whole, begin, recordsOf, slotOf, takes, stateAfter}
+
+-- ---- the job
+
+-- what every job is begun with
+pub record Fresh (f : List ℕ) (slot size : ℕ) (j : Job) : Type 0 where
+  pub slot-is : j .slot ≡ slot
+  pub size-is : j .size ≡ size
+  pub span-is : j .span ≡ length f
+  pub none-written : j .written ≡ 0
+  pub begun-on : j .boot ≡ take 32 f
+
+-- "The scan goes to the lowest record r >= N+1 where r to r+k-1 lie within the room and belong to no listed scan, the slot's present scan included"
+pub record SaveJob (f : List ℕ) (slot : ℕ) (scan about : List ℕ) (j : Job) : Type 0 where
+  pub fresh : Fresh f slot (length scan) j
+  pub saves : j .saves ≡ true
+  pub about-is : j .about ≡ about
+  pub free : FreeRun f (sizesOf f) (recordsFor (sizesOf f) (length scan)) (j .first)
+  pub lowest : (r : ℕ) → FreeRun f (sizesOf f) (recordsFor (sizesOf f) (length scan)) r → j .first ≤ r
+
+-- "keep a scan in the lowest empty slot"
+pub record LowestEmpty (f : List ℕ) (slot : ℕ) : Type 0 where
+  pub slotted : InIndex (sizesOf f) slot
+  pub empty : runOf f (sizesOf f) slot .first + runOf f (sizesOf f) slot .last ≡ 0
+  pub below : (t : ℕ) → 1 ≤ t → t < slot → Full (runOf f (sizesOf f) t)
+
+-- a clear "is lent an empty scan"; it has no records and no bytes 8 to 61 to give
+pub record ClearJob (f : List ℕ) (slot : ℕ) (j : Job) : Type 0 where
+  pub fresh : Fresh f slot 0 j
+  pub clears : j .saves ≡ false
+  pub no-place : j .first ≡ 0
+  pub no-about : j .about ≡ replicate 54 0
+
+pub record Begins : Type 0 where
+  pub save-job : (f : List ℕ) (slot : ℕ) (scan about : List ℕ) → saveOf f slot scan about .answer ≡ Accepted
+      → SaveJob f slot scan about (saveOf f slot scan about .job)
+  pub keep-job : (f scan about : List ℕ) → keepOf f scan about .answer ≡ Accepted
+      → SaveJob f (keepOf f scan about .job .slot) scan about (keepOf f scan about .job) × LowestEmpty f (keepOf f scan about .job .slot)
+  pub clear-job : (f : List ℕ) (slot : ℕ) → clearOf f slot .answer ≡ Accepted → ClearJob f slot (clearOf f slot .job)
+
+-- ---- record 1
+
+-- "D = max(D, r+k-1-N), U = max(U, slot) and the counter one higher"
+abbrev pub saved : List ℕ → Sizes → Op → Sizes
+saved f z op = renewed z (max (z .d) (begin f op .job .first + recordsOf z op - 1 - z .n)) (max (z .u) (slotOf f op)) ((z .counter + 1) % 4294967296)
+
+-- of a clear "counter only"
+abbrev pub grown : List ℕ → Sizes → Op → Sizes
+grown f z (save slot scan about) = saved f z (save slot scan about)
+grown f z (keep scan about) = saved f z (keep scan about)
+grown f z (clear slot) = renewed z (z .d) (z .u) ((z .counter + 1) % 4294967296)
+
+-- what the bootstrap says before record 1 is written, and from then on
+pub record Grows (f : List ℕ) (z : Sizes) (op : Op) : Type 0 where
+  pub before : (i : ℕ) → i ≤ recordsOf z op → sizesOf (stateAfter f op i .file) ≡ z
+  pub after : (i : ℕ) → recordsOf z op < i → sizesOf (stateAfter f op i .file) ≡ grown f z op
+
+abbrev pub RecordOne : Type 0
+RecordOne = (f : List ℕ) (z : Sizes) → openOf f ≡ Opens z → (op : Op) → Whole op → takes f op ≡ true → Grows f z op

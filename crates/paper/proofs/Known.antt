@@ -1,0 +1,178 @@
+-- The known answers, by computation.
+use mathlib.Core.Path.{refl}
+use native.Mathlib.Omega.{arith}
+use borrow.Author.Tests.{le-leb, lt-leb}
+use lib.Ieee.{Float, ofBits}
+use lib.ListN.{length}
+use Rattle.lent.specs.Number.{number, value, digit, bytes, words, int16}
+use Rattle.lent.specs.Lists.{table, every, those}
+use Rattle.lent.specs.Least.{least}
+use Rattle.lent.specs.Part.{placeIn}
+use Rattle.lent.specs.Write.{write, zeros}
+use Rattle.whole.specs.Number.{exactly, wholeFloat, wholeOf}
+use Rattle.whole.specs.Length.{lengthOf, isWhole, sizeOf}
+use Rattle.paper.specs.Sizes.{bootBytes, shaped, inRange}
+use Rattle.paper.specs.Index.{empty, inData, badAt, aboveAt, shares, sharer, sharedAt, openOf, slotsOf}
+use Rattle.paper.specs.Entry.{kindOf, fieldsOf, entryBytes}
+use Rattle.paper.specs.Scan.{classesOf, startsOf, rule1, rule2, rule3, rule4, rule5, rule6, rising, ruledOf, classAt, classEnd, classIn, classOf, dataOf}
+use Rattle.paper.specs.Look.{linesOf, listedOf, listedOut, foundOf, showOf, readOf}
+use Rattle.paper.specs.Lister.{digits, linesText, listText, printed}
+use Rattle.paper.specs.Known.{Refusals, Answers, Boot, Entries, Kinds, scan13, scan15, Scans, file, File, Parts, Renewed, Zeros, Prints}
+
+pub refusals : Refusals
+refusals =
+    record {
+      too-short = refl;
+      old-form = refl;
+      unknown-form = refl;
+      out-of-range = refl;
+      past-end = refl;
+      bad-entry = refl;
+      above-use = refl;
+      shared-record = refl;
+      no-such-slot = refl;
+      empty-slot = refl;
+      bad-scan = refl;
+      no-empty-slot = refl;
+      no-room = refl;
+      disagrees = refl;
+      differs = refl;
+      bad-blank = refl;
+      too-small = refl;
+    }
+
+pub answers : Answers
+answers =
+    record {
+      opens = refl;
+      not-opened = refl;
+      scans = refl;
+      not-listed = refl;
+      part = refl;
+      no-part = refl;
+      accepted = refl;
+      not-taken = refl;
+      wrote = refl;
+      saved = refl;
+      cleared = refl;
+      not-stepped = refl;
+    }
+
+pub boot : Boot
+unfolding number value digit bytes words table bootBytes
+boot =
+    record {
+      reads = refl;
+      version = refl;
+      written = refl;
+    }
+
+pub entries : Entries
+unfolding number value digit bytes words table int16 zeros kindOf fieldsOf entryBytes
+entries =
+    record {
+      fields = refl;
+      written = refl;
+      greatest = refl;
+      least = refl;
+      minus-one = refl;
+    }
+
+pub kinds : (a b : Float) → Kinds a b
+unfolding kindOf
+kinds a b =
+    record {
+      mode-255 = refl;
+      mode-256 = refl;
+      mode-304 = refl;
+      mode-305 = refl;
+      mode-511 = refl;
+      mode-512 = refl;
+      mode-560 = refl;
+      mode-561 = refl;
+      other = refl;
+      continuum = refl;
+      spectral = refl;
+    }
+
+pub scans : Scans
+unfolding number value int16 table every exactly wholeFloat wholeOf ofBits lengthOf isWhole sizeOf classesOf startsOf rule1 rule2 rule3 rule4 rule5 rule6 rising ruledOf classAt classEnd classIn classOf dataOf scan13 scan15
+scans =
+    record {
+      starts = refl;
+      count = refl;
+      keeps-13 = refl;
+      keeps-15 = refl;
+      data-13 = refl;
+      data-15 = refl;
+      classes-13 = refl;
+      classes-15 = refl;
+    }
+
+pub files : File
+unfolding number value int16 table every those least write exactly wholeFloat wholeOf ofBits lengthOf isWhole sizeOf shaped inRange empty inData badAt aboveAt shares sharer sharedAt openOf slotsOf kindOf fieldsOf classesOf startsOf rule1 rule2 rule3 rule4 rule5 rule6 rising ruledOf linesOf listedOf listedOut foundOf showOf readOf scan13 scan15 file
+files =
+    record {
+      long = refl;
+      opens = refl;
+      lists = refl;
+      lines = refl;
+      no-room = refl;
+      show-1 = refl;
+      show-2 = refl;
+      show-3 = refl;
+      show-4 = refl;
+      show-0 = refl;
+      show-5 = refl;
+      read-1 = refl;
+      read-2 = refl;
+      read-3 = refl;
+      read-4 = refl;
+      entry-1 = refl;
+      entry-2 = refl;
+      entry-4 = refl;
+    }
+
+pub parts : Parts
+unfolding placeIn
+parts =
+    record {
+      bytes = refl;
+      place = refl;
+      to-the-end = refl;
+      past-the-end = refl;
+      empty = refl;
+      refused = refl;
+      no-bytes = refl;
+    }
+
+pub renewed : Renewed
+renewed =
+    record {
+      raised = refl;
+      as-it-was = refl;
+      cleared = refl;
+      all-ones = refl;
+    }
+
+pub zeroed : Zeros
+zeroed =
+    record {
+      job = refl;
+      entry = refl;
+    }
+
+pub prints : Prints
+unfolding number value those least shaped inRange empty inData badAt aboveAt shares sharer sharedAt openOf slotsOf digits linesText listText printed scan13 scan15 file
+prints =
+    record {
+      zero = refl;
+      nine = refl;
+      ten = refl;
+      more = refl;
+      most = refl;
+      at-most = λ f e. rw (le-leb (length f) 65536 (omega arith)) refl;
+      longer = λ f e. rw (lt-leb (length f) 65536 (omega arith)) refl;
+      lists = refl;
+      refuses = refl;
+    }

@@ -1,0 +1,248 @@
+-- Known answers: numbers and bytes of 01 written out, each against one definition. No definition of ours stands on both sides.
+use Prim.Native.Nat.{ℕ}
+use mathlib.Core.Path.{_≡_}
+use mathlib.Core.Bool.{true, false}
+use mathlib.Core.List.{List, [], _∷_, _++_}
+use lib.Ieee.{Float, binary32, binary64, ofBits}
+use lib.IntN.{pos, negsuc}
+use lib.ListN.{length, replicate}
+use Rattle.lent.specs.Number.{int16}
+use Rattle.lent.specs.Lists.{table}
+use Rattle.paper.specs.declared.sizes.Sizes.{Sizes}
+use Rattle.paper.specs.declared.refusal.Refusal.the-variants.{TooShort, OldForm, UnknownForm, OutOfRange, PastEnd, BadEntry, AboveUse, SharedRecord, NoSuchSlot, EmptySlot, BadScan, NoEmptySlot, NoRoom, Disagrees, Differs, BadBlank, TooSmall}
+use Rattle.paper.specs.declared.answer.Opened.the-variants as opened
+use Rattle.paper.specs.declared.answer.Listed.the-variants as listed
+use Rattle.paper.specs.declared.answer.Ruled.the-variants.{Keeps}
+use Rattle.paper.specs.declared.answer.Span.the-variants as span
+use Rattle.paper.specs.declared.answer.Span.the-variants.{Part}
+use Rattle.paper.specs.declared.answer.Taken.the-variants as taken
+use Rattle.paper.specs.declared.entry.Kind.the-variants.{Spectral, Continuum, Other}
+use Rattle.paper.specs.declared.entry.Entry.{Entry}
+use Rattle.paper.specs.declared.job.Job.{Job}
+use Rattle.paper.specs.declared.job.Step.the-variants as step
+use Rattle.paper.specs.Refusals.{Says, refuses, openedSays, listedSays, spanSays, takenSays, stepSays, kindSays}
+use Rattle.paper.specs.Sizes.{sizesOf, versionOf, bootBytes}
+use Rattle.paper.specs.Index.{openOf}
+use Rattle.paper.specs.Entry.{kindOf, fieldsOf, noEntry, entryBytes}
+use Rattle.paper.specs.Scan.{classesOf, startsOf, ruledOf, classOf, dataOf, partOf, spanPlace}
+use Rattle.paper.specs.Look.{listedOf, listedOut, foundOf, showOf, readOf}
+use Rattle.paper.specs.Store.{noJob, sizesAfter}
+use Rattle.paper.specs.Lister.{decimal, printed, listText}
+
+-- ---- what answers say
+
+abbrev pub says : ℕ → List ℕ → Says
+says n vs = record { number = n; values = vs }
+
+-- the table of refusals: number, and "slot or reason where shown, else 0"
+pub record Refusals : Type 0 where
+  pub too-short : refuses TooShort ≡ says 1 (0 ∷ [])
+  pub old-form : refuses OldForm ≡ says 2 (0 ∷ [])
+  pub unknown-form : refuses UnknownForm ≡ says 3 (0 ∷ [])
+  pub out-of-range : refuses OutOfRange ≡ says 4 (0 ∷ [])
+  pub past-end : refuses PastEnd ≡ says 5 (0 ∷ [])
+  pub bad-entry : refuses (BadEntry 31) ≡ says 6 (31 ∷ [])
+  pub above-use : refuses (AboveUse 32) ≡ says 7 (32 ∷ [])
+  pub shared-record : refuses (SharedRecord 33) ≡ says 8 (33 ∷ [])
+  pub no-such-slot : refuses NoSuchSlot ≡ says 9 (0 ∷ [])
+  pub empty-slot : refuses EmptySlot ≡ says 10 (0 ∷ [])
+  pub bad-scan : refuses (BadScan 6) ≡ says 11 (6 ∷ [])
+  pub no-empty-slot : refuses NoEmptySlot ≡ says 12 (0 ∷ [])
+  pub no-room : refuses NoRoom ≡ says 13 (0 ∷ [])
+  pub disagrees : refuses Disagrees ≡ says 14 (0 ∷ [])
+  pub differs : refuses Differs ≡ says 15 (0 ∷ [])
+  pub bad-blank : refuses BadBlank ≡ says 16 (0 ∷ [])
+  pub too-small : refuses TooSmall ≡ says 17 (0 ∷ [])
+
+-- sizes with every number its own
+abbrev pub someSizes : Sizes
+someSizes = record { n = 16909060; d = 84281096; l = 151653132; m = 219025168; u = 286397204; counter = 353769240; kind = 421141276 }
+
+-- and what is accepted: 0, and the values
+pub record Answers : Type 0 where
+  pub opens : openedSays (opened.Opens someSizes) ≡ says 0 (16909060 ∷ 84281096 ∷ 151653132 ∷ 219025168 ∷ 286397204 ∷ 353769240 ∷ 421141276 ∷ [])
+  pub not-opened : openedSays (opened.Refused (BadEntry 3)) ≡ says 6 (3 ∷ [])
+  pub scans : listedSays (listed.Scans 2) ≡ says 0 (2 ∷ [])
+  pub not-listed : listedSays (listed.Refused TooSmall) ≡ says 17 (0 ∷ [])
+  pub part : spanSays (Part 3 5) ≡ says 0 (3 ∷ 5 ∷ [])
+  pub no-part : spanSays (span.Refused (BadScan 4)) ≡ says 11 (4 ∷ [])
+  pub accepted : takenSays taken.Accepted ≡ says 0 []
+  pub not-taken : takenSays (taken.Refused NoRoom) ≡ says 13 (0 ∷ [])
+  pub wrote : stepSays (step.Wrote 7 3) ≡ says 0 (0 ∷ 7 ∷ 3 ∷ [])
+  pub saved : stepSays (step.Saved 0 4) ≡ says 0 (1 ∷ 0 ∷ 4 ∷ [])
+  pub cleared : stepSays (step.Cleared 0 2) ≡ says 0 (2 ∷ 0 ∷ 2 ∷ [])
+  pub not-stepped : stepSays (step.Refused Differs) ≡ says 15 (0 ∷ [])
+
+-- ---- the bootstrap in bytes
+
+-- 32 bytes, no two alike
+abbrev pub bytes32 : List ℕ
+bytes32 = 1 ∷ 2 ∷ 3 ∷ 4 ∷ 5 ∷ 6 ∷ 7 ∷ 8 ∷ 9 ∷ 10 ∷ 11 ∷ 12 ∷ 13 ∷ 14 ∷ 15 ∷ 16 ∷ 17 ∷ 18 ∷ 19 ∷ 20 ∷ 21 ∷ 22 ∷ 23 ∷ 24 ∷ 25 ∷ 26 ∷ 27 ∷ 28 ∷ 29 ∷ 30 ∷ 31 ∷ 32 ∷ []
+
+pub record Boot : Type 0 where
+  pub reads : sizesOf bytes32 ≡ someSizes
+  pub version : versionOf bytes32 ≡ 488513312
+  pub written : bootBytes someSizes ≡ 1 ∷ 2 ∷ 3 ∷ 4 ∷ 5 ∷ 6 ∷ 7 ∷ 8 ∷ 9 ∷ 10 ∷ 11 ∷ 12 ∷ 13 ∷ 14 ∷ 15 ∷ 16 ∷ 17 ∷ 18 ∷ 19 ∷ 20 ∷ 21 ∷ 22 ∷ 23 ∷ 24 ∷ 25 ∷ 26 ∷ 27 ∷ 28 ∷ 0 ∷ 0 ∷ 0 ∷ 1 ∷ []
+
+-- ---- an entry in bytes
+
+-- bytes 8 to 61, no two alike
+abbrev pub bytes54 : List ℕ
+bytes54 = 9 ∷ 10 ∷ 11 ∷ 12 ∷ 13 ∷ 14 ∷ 15 ∷ 16 ∷ 17 ∷ 18 ∷ 19 ∷ 20 ∷ 21 ∷ 22 ∷ 23 ∷ 24 ∷ 25 ∷ 26 ∷ 27 ∷ 28 ∷ 29 ∷ 30 ∷ 31 ∷ 32 ∷ 33 ∷ 34 ∷ 35 ∷ 36 ∷ 37 ∷ 38 ∷ 39 ∷ 40 ∷ 41 ∷ 42 ∷ 43 ∷ 44 ∷ 45 ∷ 46 ∷ 47 ∷ 48 ∷ 49 ∷ 50 ∷ 51 ∷ 52 ∷ 53 ∷ 54 ∷ 55 ∷ 56 ∷ 57 ∷ 58 ∷ 59 ∷ 60 ∷ 61 ∷ 62 ∷ []
+
+-- an entry after two other bytes
+abbrev pub bytes64 : List ℕ
+bytes64 = 201 ∷ 202 ∷ 1 ∷ 2 ∷ 3 ∷ 4 ∷ 5 ∷ 6 ∷ 7 ∷ 8 ∷ bytes54
+
+abbrev pub entryIs : Entry
+entryIs =
+    record {
+      first = 16909060;
+      last = 84281096;
+      horizontal = 151653132;
+      vertical = 219025168;
+      source = 17 ∷ 18 ∷ 19 ∷ 20 ∷ 21 ∷ 22 ∷ 23 ∷ 24 ∷ 25 ∷ 26 ∷ 27 ∷ 28 ∷ 29 ∷ 30 ∷ 31 ∷ 32 ∷ [];
+      scan = 555885348;
+      field4 = 623257384;
+      field8 = 2966230773313449776;
+      lst = 825373492;
+      date = 892745528;
+      mode = pos 14650;
+      number = pos 15164;
+      position = pos 15678;
+      kind = Other (ofBits binary32 623257384) (ofBits binary64 2966230773313449776);
+    }
+
+pub record Entries : Type 0 where
+  pub fields : fieldsOf bytes64 2 ≡ entryIs
+  pub written : entryBytes (record { n = 2; d = 0; l = 512; m = 64; u = 0; counter = 0; kind = 0 }) (record { first = 16909060; last = 84281096 }) bytes54 ≡ 1 ∷ 2 ∷ 3 ∷ 4 ∷ 5 ∷ 6 ∷ 7 ∷ 8 ∷ (bytes54 ++ (0 ∷ 0 ∷ []))
+  -- "integers two's complement"
+  pub greatest : int16 32767 ≡ pos 32767
+  pub least : int16 32768 ≡ negsuc 32767
+  pub minus-one : int16 65535 ≡ negsuc 0
+
+-- "Mode 256 to 304 is continuum with type code 0 to 48, and 512 to 560 is spectral line with the same codes"
+pub record Kinds (a b : Float) : Type 0 where
+  pub mode-255 : kindOf 255 a b ≡ Other a b
+  pub mode-256 : kindOf 256 a b ≡ Continuum 0 a b
+  pub mode-304 : kindOf 304 a b ≡ Continuum 48 a b
+  pub mode-305 : kindOf 305 a b ≡ Other a b
+  pub mode-511 : kindOf 511 a b ≡ Other a b
+  pub mode-512 : kindOf 512 a b ≡ Spectral 0 a b
+  pub mode-560 : kindOf 560 a b ≡ Spectral 48 a b
+  pub mode-561 : kindOf 561 a b ≡ Other a b
+  pub other : kindSays (Other a b) ≡ record { number = 0; code = 0; single = a; double = b }
+  pub continuum : kindSays (Continuum 7 a b) ≡ record { number = 1; code = 7; single = a; double = b }
+  pub spectral : kindSays (Spectral 7 a b) ≡ record { number = 2; code = 7; single = a; double = b }
+
+-- ---- scans
+
+-- 13 classes, unused starts that are not judged, HEADLEN 296 and DATALEN 12
+unfoldable pub scan13 : List ℕ
+scan13 = 0 ∷ 13 ∷ 0 ∷ 5 ∷ 0 ∷ 21 ∷ 0 ∷ 24 ∷ 0 ∷ 25 ∷ 0 ∷ 27 ∷ 0 ∷ 28 ∷ 0 ∷ 29 ∷ 0 ∷ 30 ∷ 0 ∷ 31 ∷ 0 ∷ 32 ∷ 0 ∷ 33 ∷ 0 ∷ 34 ∷ 0 ∷ 36 ∷ 255 ∷ 254 ∷ 255 ∷ 254 ∷ 64 ∷ 114 ∷ 128 ∷ 0 ∷ 0 ∷ 0 ∷ 0 ∷ 0 ∷ 64 ∷ 40 ∷ 0 ∷ 0 ∷ 0 ∷ 0 ∷ 0 ∷ 0 ∷ replicate 260 0
+
+-- 15 classes, HEADLEN 304 and DATALEN 8
+unfoldable pub scan15 : List ℕ
+scan15 = 0 ∷ 15 ∷ 0 ∷ 5 ∷ 0 ∷ 22 ∷ 0 ∷ 23 ∷ 0 ∷ 24 ∷ 0 ∷ 25 ∷ 0 ∷ 26 ∷ 0 ∷ 27 ∷ 0 ∷ 28 ∷ 0 ∷ 29 ∷ 0 ∷ 30 ∷ 0 ∷ 31 ∷ 0 ∷ 32 ∷ 0 ∷ 33 ∷ 0 ∷ 34 ∷ 0 ∷ 37 ∷ 64 ∷ 115 ∷ 0 ∷ 0 ∷ 0 ∷ 0 ∷ 0 ∷ 0 ∷ 64 ∷ 32 ∷ 0 ∷ 0 ∷ 0 ∷ 0 ∷ 0 ∷ 0 ∷ replicate 264 0
+
+pub record Scans : Type 0 where
+  pub starts : startsOf bytes32 ≡ pos 772 ∷ pos 1286 ∷ pos 1800 ∷ pos 2314 ∷ pos 2828 ∷ pos 3342 ∷ pos 3856 ∷ pos 4370 ∷ pos 4884 ∷ pos 5398 ∷ pos 5912 ∷ pos 6426 ∷ pos 6940 ∷ pos 7454 ∷ pos 7968 ∷ []
+  pub count : classesOf bytes32 ≡ 258
+  pub keeps-13 : ruledOf scan13 true ≡ Keeps 296 12
+  pub keeps-15 : ruledOf scan15 true ≡ Keeps 304 8
+  pub data-13 : dataOf scan13 ≡ Part 296 308
+  pub data-15 : dataOf scan15 ≡ Part 304 312
+  -- class 0, 1 and on, to one past the last
+  pub classes-13 : table 15 (classOf scan13) ≡ Part 0 0 ∷ Part 32 160 ∷ Part 160 184 ∷ Part 184 192 ∷ Part 192 208 ∷ Part 208 216 ∷ Part 216 224 ∷ Part 224 232 ∷ Part 232 240 ∷ Part 240 248 ∷ Part 248 256 ∷ Part 256 264 ∷ Part 264 280 ∷ Part 280 296 ∷ Part 0 0 ∷ []
+  pub classes-15 : table 17 (classOf scan15) ≡ Part 0 0 ∷ Part 32 168 ∷ Part 168 176 ∷ Part 176 184 ∷ Part 184 192 ∷ Part 192 200 ∷ Part 200 208 ∷ Part 208 216 ∷ Part 216 224 ∷ Part 224 232 ∷ Part 232 240 ∷ Part 240 248 ∷ Part 248 256 ∷ Part 256 264 ∷ Part 264 288 ∷ Part 288 304 ∷ Part 0 0 ∷ []
+
+-- ---- a file
+
+-- N 2, D 3, L 512, M 128, U 4, counter all ones, type 1: slot 1 in record 4, slot 2 in record 3, slot 3 in record 5, which holds no scan, slot 4 empty; a
+-- byte after word 8, and one after an entry's byte 61
+abbrev pub fileBoot : List ℕ
+fileBoot =
+    0 ∷ 0 ∷ 0 ∷ 2 ∷ 0 ∷ 0 ∷ 0 ∷ 3 ∷ 0 ∷ 0 ∷ 2 ∷ 0 ∷ 0 ∷ 0 ∷ 0 ∷ 128 ∷ 0 ∷ 0 ∷ 0 ∷ 4 ∷ 255 ∷ 255 ∷ 255 ∷ 255 ∷ 0 ∷ 0 ∷ 0 ∷ 1 ∷ 0 ∷ 0 ∷ 0 ∷ 1 ∷ 77
+    ∷ replicate 479 0
+
+abbrev pub fileIndex : List ℕ
+fileIndex =
+    (0 ∷ 0 ∷ 0 ∷ 4 ∷ 0 ∷ 0 ∷ 0 ∷ 4 ∷ (bytes54 ++ (78 ∷ replicate 65 0)))
+    ++ ((0 ∷ 0 ∷ 0 ∷ 3 ∷ 0 ∷ 0 ∷ 0 ∷ 3 ∷ replicate 120 5) ++ ((0 ∷ 0 ∷ 0 ∷ 5 ∷ 0 ∷ 0 ∷ 0 ∷ 5 ∷ replicate 120 0) ++ replicate 128 0))
+
+unfoldable pub file : List ℕ
+file = fileBoot ++ (fileIndex ++ (scan15 ++ (replicate 200 0 ++ (scan13 ++ (replicate 204 0 ++ replicate 512 0)))))
+
+abbrev pub fileSizes : Sizes
+fileSizes = record { n = 2; d = 3; l = 512; m = 128; u = 4; counter = 4294967295; kind = 1 }
+
+pub record File : Type 0 where
+  pub long : length file ≡ 2560
+  -- "Entry U itself may be empty"
+  pub opens : openOf file ≡ opened.Opens fileSizes
+  -- "slot, first and last as three 32-bit numbers per scan in slot order, and no further element"
+  pub lists : listedOf file (replicate 11 9) ≡ listed.Scans 3
+  pub lines : listedOut file (replicate 11 9) ≡ 1 ∷ 4 ∷ 4 ∷ 2 ∷ 3 ∷ 3 ∷ 3 ∷ 5 ∷ 5 ∷ 9 ∷ 9 ∷ []
+  pub no-room : listedOf file (replicate 8 9) ≡ listed.Refused TooSmall
+  pub show-1 : showOf file 1 ≡ Part 1536 2048
+  pub show-2 : showOf file 2 ≡ Part 1024 1536
+  pub show-3 : showOf file 3 ≡ Part 2048 2560
+  pub show-4 : showOf file 4 ≡ span.Refused EmptySlot
+  pub show-0 : showOf file 0 ≡ span.Refused NoSuchSlot
+  pub show-5 : showOf file 5 ≡ span.Refused NoSuchSlot
+  pub read-1 : readOf file 1 ≡ Part 1536 1844
+  pub read-2 : readOf file 2 ≡ Part 1024 1336
+  pub read-3 : readOf file 3 ≡ span.Refused (BadScan 2)
+  pub read-4 : readOf file 4 ≡ span.Refused EmptySlot
+  pub entry-1 : foundOf file 1 .entry .source ≡ 17 ∷ 18 ∷ 19 ∷ 20 ∷ 21 ∷ 22 ∷ 23 ∷ 24 ∷ 25 ∷ 26 ∷ 27 ∷ 28 ∷ 29 ∷ 30 ∷ 31 ∷ 32 ∷ []
+  pub entry-2 : foundOf file 2 .entry .last ≡ 3
+  pub entry-4 : foundOf file 4 .answer ≡ taken.Refused EmptySlot
+
+-- the part that a span names, of five bytes, and where it begins
+pub record Parts : Type 0 where
+  pub bytes : partOf (4 ∷ 5 ∷ 6 ∷ 7 ∷ 8 ∷ []) (Part 1 3) ≡ 5 ∷ 6 ∷ []
+  pub place : spanPlace (4 ∷ 5 ∷ 6 ∷ 7 ∷ 8 ∷ []) (Part 1 3) ≡ 1
+  pub to-the-end : spanPlace (4 ∷ 5 ∷ 6 ∷ 7 ∷ 8 ∷ []) (Part 4 9) ≡ 4
+  pub past-the-end : spanPlace (4 ∷ 5 ∷ 6 ∷ 7 ∷ 8 ∷ []) (Part 5 9) ≡ 0
+  pub empty : spanPlace (4 ∷ 5 ∷ 6 ∷ 7 ∷ 8 ∷ []) (Part 3 3) ≡ 0
+  pub refused : spanPlace (4 ∷ 5 ∷ 6 ∷ 7 ∷ 8 ∷ []) (span.Refused EmptySlot) ≡ 0
+  pub no-bytes : partOf (4 ∷ 5 ∷ 6 ∷ 7 ∷ 8 ∷ []) (span.Refused EmptySlot) ≡ []
+
+-- ---- the counter and record 1
+
+abbrev pub saveJob : Job
+saveJob = record { saves = true; slot = 5; size = 1000; span = 0; first = 40; written = 0; boot = []; about = [] }
+
+abbrev pub clearJob : Job
+clearJob = record { saves = false; slot = 5; size = 0; span = 0; first = 0; written = 0; boot = []; about = [] }
+
+pub record Renewed : Type 0 where
+  -- D = 40 + 2 - 1 - 3, U = 5, the counter one higher
+  pub raised : sizesAfter (record { n = 3; d = 9; l = 512; m = 64; u = 4; counter = 7; kind = 1 }) saveJob ≡ record { n = 3; d = 38; l = 512; m = 64; u = 5; counter = 8; kind = 1 }
+  pub as-it-was : sizesAfter (record { n = 3; d = 90; l = 512; m = 64; u = 6; counter = 7; kind = 0 }) saveJob ≡ record { n = 3; d = 90; l = 512; m = 64; u = 6; counter = 8; kind = 0 }
+  pub cleared : sizesAfter (record { n = 3; d = 9; l = 512; m = 64; u = 4; counter = 7; kind = 0 }) clearJob ≡ record { n = 3; d = 9; l = 512; m = 64; u = 4; counter = 8; kind = 0 }
+  -- "after all ones comes zero"
+  pub all-ones : sizesAfter fileSizes clearJob ≡ record { n = 2; d = 3; l = 512; m = 128; u = 4; counter = 0; kind = 1 }
+
+-- ---- zeros
+
+pub record Zeros : Type 0 where
+  pub job : noJob ≡ record { saves = false; slot = 0; size = 0; span = 0; first = 0; written = 0; boot = replicate 32 0; about = replicate 54 0 }
+  pub entry : noEntry ≡ record { first = 0; last = 0; horizontal = 0; vertical = 0; source = replicate 16 0; scan = 0; field4 = 0; field8 = 0; lst = 0; date = 0; mode = pos 0; number = pos 0; position = pos 0; kind = Other (ofBits binary32 0) (ofBits binary64 0) }
+
+-- ---- the lister
+
+-- "reads one file of at most 65,536 bytes .. for a longer input it prints `too long`"
+pub record Prints : Type 0 where
+  -- 0, 9, 10 and 1307 in decimal
+  pub zero : decimal 0 ≡ 48 ∷ []
+  pub nine : decimal 9 ≡ 57 ∷ []
+  pub ten : decimal 10 ≡ 49 ∷ 48 ∷ []
+  pub more : decimal 1307 ≡ 49 ∷ 51 ∷ 48 ∷ 55 ∷ []
+  pub most : decimal 18446744073709551615 ≡ 49 ∷ 56 ∷ 52 ∷ 52 ∷ 54 ∷ 55 ∷ 52 ∷ 52 ∷ 48 ∷ 55 ∷ 51 ∷ 55 ∷ 48 ∷ 57 ∷ 53 ∷ 53 ∷ 49 ∷ 54 ∷ 49 ∷ 53 ∷ []
+  pub at-most : (f : List ℕ) → length f ≡ 65536 → printed f ≡ listText f
+  pub longer : (f : List ℕ) → length f ≡ 65537 → printed f ≡ 116 ∷ 111 ∷ 111 ∷ 32 ∷ 108 ∷ 111 ∷ 110 ∷ 103 ∷ 10 ∷ []
+  -- "slots 4 used 4 scans 3", "1 4 4", "2 3 3", "3 5 5"
+  pub lists : printed file ≡ 115 ∷ 108 ∷ 111 ∷ 116 ∷ 115 ∷ 32 ∷ 52 ∷ 32 ∷ 117 ∷ 115 ∷ 101 ∷ 100 ∷ 32 ∷ 52 ∷ 32 ∷ 115 ∷ 99 ∷ 97 ∷ 110 ∷ 115 ∷ 32 ∷ 51 ∷ 10 ∷ 49 ∷ 32 ∷ 52 ∷ 32 ∷ 52 ∷ 10 ∷ 50 ∷ 32 ∷ 51 ∷ 32 ∷ 51 ∷ 10 ∷ 51 ∷ 32 ∷ 53 ∷ 32 ∷ 53 ∷ 10 ∷ []
+  -- "refused 1 slot 0"
+  pub refuses : printed [] ≡ 114 ∷ 101 ∷ 102 ∷ 117 ∷ 115 ∷ 101 ∷ 100 ∷ 32 ∷ 49 ∷ 32 ∷ 115 ∷ 108 ∷ 111 ∷ 116 ∷ 32 ∷ 48 ∷ 10 ∷ []
