@@ -22,7 +22,7 @@ Blanks = (f : List ℕ) (n l m : ℕ) → Shaped (blankSizes n l m) → n * l �
 abbrev pub BlankOpens : Type 0
 BlankOpens =
     (f : List ℕ) (n l m : ℕ) → blankOf f n l m ≡ Accepted
-    → (openOf (blankFile f n l m) ≡ Opens (blankSizes n l m)) × (listOf (blankFile f n l m) ≡ [])
+    → (openOf (blankFile f n l m) ≡ Opens (record { n = n; d = 0; l = l; m = m; u = 0; counter = 0; kind = 0 })) × (listOf (blankFile f n l m) ≡ [])
 
 -- "Blank writes N records, .. zeros after word 8, and touches nothing beyond"
 pub record Blanked (f g : List ℕ) (n l : ℕ) : Type 0 where

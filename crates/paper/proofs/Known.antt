@@ -8,16 +8,19 @@ use Rattle.lent.specs.Number.{number, value, digit, bytes, words, int16}
 use Rattle.lent.specs.Lists.{table, every, those}
 use Rattle.lent.specs.Least.{least}
 use Rattle.lent.specs.Part.{placeIn}
-use Rattle.lent.specs.Write.{write, zeros}
+use Rattle.lent.specs.Write.{write, zeros, pad}
+use Rattle.lent.specs.Same.{same}
 use Rattle.whole.specs.Number.{exactly, wholeFloat, wholeOf}
 use Rattle.whole.specs.Length.{lengthOf, isWhole, sizeOf}
 use Rattle.paper.specs.Sizes.{bootBytes, shaped, inRange}
-use Rattle.paper.specs.Index.{empty, inData, badAt, aboveAt, shares, sharer, sharedAt, openOf, slotsOf}
+use Rattle.paper.specs.Index.{empty, inData, badAt, aboveAt, shares, sharer, sharedAt, indexOf, openOf, slotsOf}
 use Rattle.paper.specs.Entry.{kindOf, fieldsOf, entryBytes}
 use Rattle.paper.specs.Scan.{classesOf, startsOf, rule1, rule2, rule3, rule4, rule5, rule6, rising, ruledOf, classAt, classEnd, classIn, classOf, dataOf}
 use Rattle.paper.specs.Look.{linesOf, listedOf, listedOut, foundOf, showOf, readOf}
+use Rattle.paper.specs.Store.{freeAt, freePlace, emptySlot, dataFrom, writesOf}
+use Rattle.paper.specs.Step.{agrees, stands}
 use Rattle.paper.specs.Lister.{digits, linesText, listText, printed}
-use Rattle.paper.specs.Known.{Refusals, Answers, Boot, Entries, Kinds, scan13, scan15, Scans, file, File, Parts, Renewed, Zeros, Prints}
+use Rattle.paper.specs.Known.{Refusals, Answers, Boot, Entries, Kinds, scan13, scan15, Scans, Rules, Index, Places, file, File, Parts, Agrees, Stands, Renewed, Zeros, Prints}
 
 pub refusals : Refusals
 refusals =
@@ -133,6 +136,106 @@ files =
       entry-4 = refl;
     }
 
+pub rules : Rules
+unfolding number value int16 table every exactly wholeFloat wholeOf ofBits lengthOf isWhole sizeOf classesOf startsOf rule1 rule2 rule3 rule4 rule5 rule6 rising ruledOf write scan13
+rules =
+    record {
+      one-255 = refl;
+      one-256 = refl;
+      one-most = refl;
+      one-more = refl;
+      one-read = refl;
+      two-12 = refl;
+      two-16 = refl;
+      two-negative = refl;
+      three-first = refl;
+      three-second = refl;
+      three-equal = refl;
+      three-last = refl;
+      three-negative = refl;
+      four-multiple = refl;
+      four-low = refl;
+      four-least = refl;
+      four-sum = refl;
+      four-high = refl;
+      four-whole = refl;
+      five-multiple = refl;
+      five-high = refl;
+      five-none = refl;
+      five-whole = refl;
+      six = refl;
+      six-read = refl;
+    }
+
+pub indexes : Index
+unfolding least empty inData badAt aboveAt shares sharer sharedAt indexOf
+indexes =
+    record {
+      all-records = refl;
+      apart = refl;
+      index-record = refl;
+      past-d = refl;
+      turned = refl;
+      first-none = refl;
+      last-none = refl;
+      above = refl;
+      bad-above = refl;
+      at-the-end = refl;
+      at-the-front = refl;
+      within = refl;
+      around = refl;
+      six-first = refl;
+      seven-next = refl;
+    }
+
+pub places : Places
+unfolding least empty shares sharer freeAt freePlace emptySlot
+places =
+    record {
+      one = refl;
+      two = refl;
+      none = refl;
+      at-the-end = refl;
+      no-more = refl;
+      empty = refl;
+      last-empty = refl;
+      none-empty = refl;
+    }
+
+pub agreeing : Agrees
+unfolding number value same shaped inRange table every dataFrom writesOf bootBytes words bytes digit zeros pad entryBytes agrees scan13 scan15 file
+agreeing =
+    record {
+      yes = refl;
+      last-step = refl;
+      lowest = refl;
+      other-scan = refl;
+      other-length = refl;
+      other-boot = refl;
+      no-file = refl;
+      no-scan = refl;
+      slot-0 = refl;
+      slot-5 = refl;
+      in-the-index = refl;
+      past-the-room = refl;
+      too-many = refl;
+      clear = refl;
+      clear-too-many = refl;
+    }
+
+pub standing : Stands
+unfolding number value same digit bytes words table zeros pad entryBytes stands scan13 scan15 file
+standing =
+    record {
+      yes = refl;
+      padding = refl;
+      other-byte = refl;
+      other-entry = refl;
+      other-place = refl;
+      not-cleared = refl;
+      cleared = refl;
+    }
+
 pub parts : Parts
 unfolding placeIn
 parts =
@@ -149,6 +252,7 @@ parts =
 pub renewed : Renewed
 renewed =
     record {
+      blank = refl;
       raised = refl;
       as-it-was = refl;
       cleared = refl;

@@ -1,18 +1,21 @@
 -- Known answers: numbers and bytes of 01 written out, each against one definition. No definition of ours stands on both sides.
-use Prim.Native.Nat.{ℕ}
+use Prim.Native.Nat.{ℕ, _-_}
 use mathlib.Core.Path.{_≡_}
 use mathlib.Core.Bool.{true, false}
 use mathlib.Core.List.{List, [], _∷_, _++_}
 use lib.Ieee.{Float, binary32, binary64, ofBits}
 use lib.IntN.{pos, negsuc}
-use lib.ListN.{length, replicate}
+use lib.ListN.{length, take, drop, getD, replicate}
 use Rattle.lent.specs.Number.{int16}
 use Rattle.lent.specs.Lists.{table}
+use Rattle.lent.specs.Write.{write}
 use Rattle.paper.specs.declared.sizes.Sizes.{Sizes}
+use Rattle.paper.specs.declared.sizes.Run.{Run}
 use Rattle.paper.specs.declared.refusal.Refusal.the-variants.{TooShort, OldForm, UnknownForm, OutOfRange, PastEnd, BadEntry, AboveUse, SharedRecord, NoSuchSlot, EmptySlot, BadScan, NoEmptySlot, NoRoom, Disagrees, Differs, BadBlank, TooSmall}
+use Rattle.paper.specs.declared.answer.Opened.{Opened}
 use Rattle.paper.specs.declared.answer.Opened.the-variants as opened
 use Rattle.paper.specs.declared.answer.Listed.the-variants as listed
-use Rattle.paper.specs.declared.answer.Ruled.the-variants.{Keeps}
+use Rattle.paper.specs.declared.answer.Ruled.the-variants.{Keeps, Breaks}
 use Rattle.paper.specs.declared.answer.Span.the-variants as span
 use Rattle.paper.specs.declared.answer.Span.the-variants.{Part}
 use Rattle.paper.specs.declared.answer.Taken.the-variants as taken
@@ -22,11 +25,12 @@ use Rattle.paper.specs.declared.job.Job.{Job}
 use Rattle.paper.specs.declared.job.Step.the-variants as step
 use Rattle.paper.specs.Refusals.{Says, refuses, openedSays, listedSays, spanSays, takenSays, stepSays, kindSays}
 use Rattle.paper.specs.Sizes.{sizesOf, versionOf, bootBytes}
-use Rattle.paper.specs.Index.{openOf}
+use Rattle.paper.specs.Index.{indexOf, openOf}
 use Rattle.paper.specs.Entry.{kindOf, fieldsOf, noEntry, entryBytes}
-use Rattle.paper.specs.Scan.{classesOf, startsOf, ruledOf, classOf, dataOf, partOf, spanPlace}
+use Rattle.paper.specs.Scan.{classesOf, startsOf, rule1, ruledOf, classOf, dataOf, partOf, spanPlace}
 use Rattle.paper.specs.Look.{listedOf, listedOut, foundOf, showOf, readOf}
-use Rattle.paper.specs.Store.{noJob, sizesAfter}
+use Rattle.paper.specs.Store.{blankSizes, freePlace, emptySlot, noJob, sizesAfter}
+use Rattle.paper.specs.Step.{agrees, stands}
 use Rattle.paper.specs.Lister.{decimal, printed, listText}
 
 -- ---- what answers say
@@ -156,6 +160,90 @@ pub record Scans : Type 0 where
   pub classes-13 : table 15 (classOf scan13) ≡ Part 0 0 ∷ Part 32 160 ∷ Part 160 184 ∷ Part 184 192 ∷ Part 192 208 ∷ Part 208 216 ∷ Part 216 224 ∷ Part 224 232 ∷ Part 232 240 ∷ Part 240 248 ∷ Part 248 256 ∷ Part 256 264 ∷ Part 264 280 ∷ Part 280 296 ∷ Part 0 0 ∷ []
   pub classes-15 : table 17 (classOf scan15) ≡ Part 0 0 ∷ Part 32 168 ∷ Part 168 176 ∷ Part 176 184 ∷ Part 184 192 ∷ Part 192 200 ∷ Part 200 208 ∷ Part 208 216 ∷ Part 216 224 ∷ Part 224 232 ∷ Part 232 240 ∷ Part 240 248 ∷ Part 248 256 ∷ Part 256 264 ∷ Part 264 288 ∷ Part 288 304 ∷ Part 0 0 ∷ []
 
+-- a scan of 13 classes with other bytes at a place
+abbrev pub with-bytes : ℕ → List ℕ → List ℕ
+with-bytes at bytes = write scan13 at bytes
+
+-- a double of which all but the first three bytes are 0
+abbrev pub double : ℕ → ℕ → ℕ → List ℕ
+double a b c = a ∷ b ∷ c ∷ 0 ∷ 0 ∷ 0 ∷ 0 ∷ 0 ∷ []
+
+-- each rule, just kept and just broken; scan13 has 308 bytes, HEADLEN 296, its last start is 36, DATALEN 12
+pub record Rules : Type 0 where
+  pub one-255 : rule1 255 false ≡ false
+  pub one-256 : rule1 256 true ≡ true
+  pub one-most : rule1 65536 true ≡ true
+  pub one-more : rule1 65537 true ≡ false
+  pub one-read : rule1 65537 false ≡ true
+  pub two-12 : ruledOf (with-bytes 0 (0 ∷ 12 ∷ [])) true ≡ Breaks 2
+  pub two-16 : ruledOf (with-bytes 0 (0 ∷ 16 ∷ [])) true ≡ Breaks 2
+  pub two-negative : ruledOf (with-bytes 0 (128 ∷ 13 ∷ [])) true ≡ Breaks 2
+  pub three-first : ruledOf (with-bytes 2 (0 ∷ 6 ∷ [])) true ≡ Breaks 3
+  pub three-second : ruledOf (with-bytes 4 (0 ∷ 20 ∷ [])) true ≡ Breaks 3
+  pub three-equal : ruledOf (with-bytes 26 (0 ∷ 33 ∷ [])) true ≡ Breaks 3
+  pub three-last : ruledOf (with-bytes 26 (0 ∷ 34 ∷ [])) true ≡ Breaks 3
+  pub three-negative : ruledOf (with-bytes 26 (255 ∷ 255 ∷ [])) true ≡ Breaks 3
+  -- HEADLEN 292, 280, 288, 304 and 312, and no whole number
+  pub four-multiple : ruledOf (with-bytes 32 (double 64 114 64)) true ≡ Breaks 4
+  pub four-low : ruledOf (with-bytes 32 (double 64 113 128)) true ≡ Breaks 4
+  pub four-least : ruledOf (with-bytes 32 (double 64 114 0)) false ≡ Keeps 288 12
+  pub four-sum : ruledOf (with-bytes 32 (double 64 115 0)) true ≡ Breaks 5
+  pub four-high : ruledOf (with-bytes 32 (double 64 115 128)) true ≡ Breaks 4
+  pub four-whole : ruledOf (with-bytes 32 (double 192 114 128)) true ≡ Breaks 4
+  -- DATALEN 10, 16, 8 and 0, and no whole number
+  pub five-multiple : ruledOf (with-bytes 40 (double 64 36 0)) true ≡ Breaks 5
+  pub five-high : ruledOf (with-bytes 40 (double 64 48 0)) true ≡ Breaks 5
+  pub five-none : ruledOf (with-bytes 40 (double 0 0 0)) false ≡ Keeps 296 0
+  pub five-whole : ruledOf (with-bytes 40 (double 128 0 0)) true ≡ Breaks 5
+  pub six : ruledOf (with-bytes 40 (double 64 32 0)) true ≡ Breaks 6
+  pub six-read : ruledOf (with-bytes 40 (double 64 32 0)) false ≡ Keeps 296 8
+
+-- ---- an index: N 2, N+D 10, capacity 4
+
+abbrev pub runs : List Run → ℕ → Run
+runs rs s = getD rs (s - 1) (record { first = 0; last = 0 })
+
+abbrev pub run : ℕ → ℕ → Run
+run a b = record { first = a; last = b }
+
+abbrev pub used : ℕ → Sizes
+used u = record { n = 2; d = 8; l = 512; m = 128; u = u; counter = 0; kind = 0 }
+
+-- what is judged of slots 1, 2 and 3 where the first so many are in use
+abbrev pub index : ℕ → Run → Run → Run → Opened
+index u a b c = indexOf (used u) (runs (a ∷ b ∷ c ∷ []))
+
+pub record Index : Type 0 where
+  pub all-records : index 3 (run 3 10) (run 0 0) (run 0 0) ≡ opened.Opens (used 3)
+  pub apart : index 3 (run 6 8) (run 3 5) (run 9 10) ≡ opened.Opens (used 3)
+  pub index-record : index 3 (run 3 3) (run 2 10) (run 0 0) ≡ opened.Refused (BadEntry 2)
+  pub past-d : index 3 (run 3 3) (run 4 11) (run 0 0) ≡ opened.Refused (BadEntry 2)
+  pub turned : index 3 (run 3 3) (run 5 4) (run 0 0) ≡ opened.Refused (BadEntry 2)
+  pub first-none : index 3 (run 0 5) (run 0 0) (run 0 0) ≡ opened.Refused (BadEntry 1)
+  pub last-none : index 3 (run 0 0) (run 0 0) (run 5 0) ≡ opened.Refused (BadEntry 3)
+  pub above : index 2 (run 0 0) (run 0 0) (run 3 3) ≡ opened.Refused (AboveUse 3)
+  pub bad-above : index 2 (run 0 0) (run 0 0) (run 0 1) ≡ opened.Refused (AboveUse 3)
+  pub at-the-end : index 3 (run 3 5) (run 6 6) (run 5 5) ≡ opened.Refused (SharedRecord 3)
+  pub at-the-front : index 3 (run 6 8) (run 3 6) (run 0 0) ≡ opened.Refused (SharedRecord 2)
+  pub within : index 3 (run 3 9) (run 10 10) (run 5 6) ≡ opened.Refused (SharedRecord 3)
+  pub around : index 3 (run 5 6) (run 3 9) (run 0 0) ≡ opened.Refused (SharedRecord 2)
+  pub six-first : index 2 (run 3 4) (run 4 11) (run 3 3) ≡ opened.Refused (BadEntry 2)
+  pub seven-next : index 2 (run 3 4) (run 4 5) (run 3 3) ≡ opened.Refused (AboveUse 3)
+
+-- the lowest place for k records between records 3-4 and 7-8 of a room of 10; the lowest empty slot
+abbrev pub place : ℕ → ℕ
+place k = freePlace (used 2) 5631 (runs (run 7 8 ∷ run 3 4 ∷ [])) k
+
+pub record Places : Type 0 where
+  pub one : place 1 ≡ 5
+  pub two : place 2 ≡ 5
+  pub none : place 3 ≡ 0
+  pub at-the-end : freePlace (used 2) 5120 (runs (run 3 4 ∷ run 5 8 ∷ [])) 2 ≡ 9
+  pub no-more : freePlace (used 2) 5119 (runs (run 3 4 ∷ run 5 8 ∷ [])) 2 ≡ 0
+  pub empty : emptySlot (used 2) (runs (run 3 4 ∷ run 0 0 ∷ run 5 5 ∷ [])) ≡ 2
+  pub last-empty : emptySlot (used 2) (runs (run 3 4 ∷ run 6 6 ∷ run 5 5 ∷ [])) ≡ 4
+  pub none-empty : emptySlot (used 2) (runs (run 3 4 ∷ run 6 6 ∷ run 5 5 ∷ run 7 7 ∷ [])) ≡ 0
+
 -- ---- a file
 
 -- N 2, D 3, L 512, M 128, U 4, counter all ones, type 1: slot 1 in record 4, slot 2 in record 3, slot 3 in record 5, which holds no scan, slot 4 empty; a
@@ -208,6 +296,49 @@ pub record Parts : Type 0 where
   pub refused : spanPlace (4 ∷ 5 ∷ 6 ∷ 7 ∷ 8 ∷ []) (span.Refused EmptySlot) ≡ 0
   pub no-bytes : partOf (4 ∷ 5 ∷ 6 ∷ 7 ∷ 8 ∷ []) (span.Refused EmptySlot) ≡ []
 
+-- ---- job and file
+
+-- a save of scan13 to slot 4 of that file, at its only place, with these numbers
+abbrev pub jobWith : ℕ → ℕ → ℕ → ℕ → ℕ → Job
+jobWith slot size span first written =
+    record { saves = true; slot = slot; size = size; span = span; first = first; written = written; boot = take 32 fileBoot; about = bytes54 }
+
+-- a clear of that slot
+abbrev pub clearWith : ℕ → ℕ → List ℕ → Job
+clearWith slot written boot = record { saves = false; slot = slot; size = 0; span = 2560; first = 0; written = written; boot = boot; about = [] }
+
+-- "A step checks 14 first": each cause by itself
+pub record Agrees : Type 0 where
+  pub yes : agrees file scan13 (jobWith 4 308 2560 5 0) ≡ true
+  pub last-step : agrees file scan13 (jobWith 4 308 2560 5 3) ≡ true
+  pub lowest : agrees file scan13 (jobWith 1 308 2560 3 0) ≡ true
+  pub other-scan : agrees file (0 ∷ scan13) (jobWith 4 308 2560 5 0) ≡ false
+  pub other-length : agrees file scan13 (jobWith 4 308 2561 5 0) ≡ false
+  pub other-boot : agrees file [] (clearWith 4 0 (1 ∷ drop 1 (take 32 fileBoot))) ≡ false
+  pub no-file : agrees [] [] (record { saves = false; slot = 0; size = 0; span = 0; first = 0; written = 0; boot = []; about = [] }) ≡ false
+  pub no-scan : agrees file [] (jobWith 4 0 2560 5 0) ≡ false
+  pub slot-0 : agrees file scan13 (jobWith 0 308 2560 5 0) ≡ false
+  pub slot-5 : agrees file scan13 (jobWith 5 308 2560 5 0) ≡ false
+  pub in-the-index : agrees file scan13 (jobWith 4 308 2560 2 0) ≡ false
+  pub past-the-room : agrees file scan13 (jobWith 4 308 2560 6 0) ≡ false
+  pub too-many : agrees file scan13 (jobWith 4 308 2560 5 4) ≡ false
+  pub clear : agrees file [] (clearWith 4 2 (take 32 fileBoot)) ≡ true
+  pub clear-too-many : agrees file [] (clearWith 4 3 (take 32 fileBoot)) ≡ false
+
+-- record 5 is slot 3's: 512 zeros, and an entry of zeros from byte 8 on
+abbrev pub confirming : List ℕ → ℕ → ℕ → Job
+confirming about size first = record { saves = true; slot = 3; size = size; span = 2560; first = first; written = 3; boot = []; about = about }
+
+-- "compares the entry's M bytes and the k records, padding included"
+pub record Stands : Type 0 where
+  pub yes : stands file (replicate 512 0) (confirming (replicate 54 0) 512 5) fileSizes ≡ true
+  pub padding : stands file (replicate 511 0) (confirming (replicate 54 0) 511 5) fileSizes ≡ true
+  pub other-byte : stands file (replicate 511 0 ++ (1 ∷ [])) (confirming (replicate 54 0) 512 5) fileSizes ≡ false
+  pub other-entry : stands file (replicate 512 0) (confirming (replicate 53 0 ++ (1 ∷ [])) 512 5) fileSizes ≡ false
+  pub other-place : stands file (replicate 512 0) (confirming (replicate 54 0) 512 4) fileSizes ≡ false
+  pub not-cleared : stands file [] (record { saves = false; slot = 3; size = 0; span = 2560; first = 0; written = 2; boot = []; about = [] }) fileSizes ≡ false
+  pub cleared : stands file [] (clearWith 4 2 []) fileSizes ≡ true
+
 -- ---- the counter and record 1
 
 abbrev pub saveJob : Job
@@ -217,6 +348,8 @@ abbrev pub clearJob : Job
 clearJob = record { saves = false; slot = 5; size = 0; span = 0; first = 0; written = 0; boot = []; about = [] }
 
 pub record Renewed : Type 0 where
+  -- "D = U = counter = type = 0"
+  pub blank : blankSizes 3 512 64 ≡ record { n = 3; d = 0; l = 512; m = 64; u = 0; counter = 0; kind = 0 }
   -- D = 40 + 2 - 1 - 3, U = 5, the counter one higher
   pub raised : sizesAfter (record { n = 3; d = 9; l = 512; m = 64; u = 4; counter = 7; kind = 1 }) saveJob ≡ record { n = 3; d = 38; l = 512; m = 64; u = 5; counter = 8; kind = 1 }
   pub as-it-was : sizesAfter (record { n = 3; d = 90; l = 512; m = 64; u = 6; counter = 7; kind = 0 }) saveJob ≡ record { n = 3; d = 90; l = 512; m = 64; u = 6; counter = 8; kind = 0 }
