@@ -145,6 +145,7 @@ rules =
       one-most = refl;
       one-more = refl;
       one-read = refl;
+      one-none = refl;
       two-12 = refl;
       two-16 = refl;
       two-negative = refl;

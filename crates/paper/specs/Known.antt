@@ -175,6 +175,7 @@ pub record Rules : Type 0 where
   pub one-most : rule1 65536 true ≡ true
   pub one-more : rule1 65537 true ≡ false
   pub one-read : rule1 65537 false ≡ true
+  pub one-none : ruledOf [] false ≡ Breaks 1
   pub two-12 : ruledOf (with-bytes 0 (0 ∷ 12 ∷ [])) true ≡ Breaks 2
   pub two-16 : ruledOf (with-bytes 0 (0 ∷ 16 ∷ [])) true ≡ Breaks 2
   pub two-negative : ruledOf (with-bytes 0 (128 ∷ 13 ∷ [])) true ≡ Breaks 2
