@@ -263,6 +263,7 @@ renewed =
 pub zeroed : Zeros
 zeroed =
     record {
+      write-none = refl;
       job = refl;
       entry = refl;
     }

@@ -30,7 +30,7 @@ use Rattle.paper.specs.Entry.{kindOf, fieldsOf, noEntry, entryBytes}
 use Rattle.paper.specs.Scan.{classesOf, startsOf, rule1, ruledOf, classOf, dataOf, partOf, spanPlace}
 use Rattle.paper.specs.Look.{listedOf, listedOut, foundOf, showOf, readOf}
 use Rattle.paper.specs.Store.{blankSizes, freePlace, emptySlot, noJob, sizesAfter}
-use Rattle.paper.specs.Step.{agrees, stands}
+use Rattle.paper.specs.Step.{agrees, noWrite, stands}
 use Rattle.paper.specs.Lister.{decimal, printed, listText}
 
 -- ---- what answers say
@@ -361,6 +361,8 @@ pub record Renewed : Type 0 where
 -- ---- zeros
 
 pub record Zeros : Type 0 where
+  -- "writes nothing (record 0)"
+  pub write-none : noWrite ≡ record { at = 0; bytes = []; record-no = 0 }
   pub job : noJob ≡ record { saves = false; slot = 0; size = 0; span = 0; first = 0; written = 0; boot = replicate 32 0; about = replicate 54 0 }
   pub entry : noEntry ≡ record { first = 0; last = 0; horizontal = 0; vertical = 0; source = replicate 16 0; scan = 0; field4 = 0; field8 = 0; lst = 0; date = 0; mode = pos 0; number = pos 0; position = pos 0; kind = Other (ofBits binary32 0) (ofBits binary64 0) }
 
