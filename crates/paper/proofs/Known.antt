@@ -59,6 +59,10 @@ answers =
       saved = refl;
       cleared = refl;
       not-stepped = refl;
+      saved-confirms = refl;
+      cleared-confirms = refl;
+      wrote-does-not = refl;
+      refused-does-not = refl;
     }
 
 pub boot : Boot
@@ -204,7 +208,7 @@ places =
     }
 
 pub agreeing : Agrees
-unfolding number value same shaped inRange table every dataFrom writesOf bootBytes words bytes digit zeros pad entryBytes agrees scan13 scan15 file
+unfolding number value same shaped inRange table every dataFrom writesOf bootBytes words bytes digit zeros pad entryBytes write agrees scan13 scan15 file
 agreeing =
     record {
       yes = refl;
@@ -213,6 +217,7 @@ agreeing =
       other-scan = refl;
       other-length = refl;
       other-boot = refl;
+      bad-boot = refl;
       no-file = refl;
       no-scan = refl;
       slot-0 = refl;

@@ -30,7 +30,7 @@ use Rattle.paper.specs.Entry.{kindOf, fieldsOf, noEntry, entryBytes}
 use Rattle.paper.specs.Scan.{classesOf, startsOf, rule1, ruledOf, classOf, dataOf, partOf, spanPlace}
 use Rattle.paper.specs.Look.{listedOf, listedOut, foundOf, showOf, readOf}
 use Rattle.paper.specs.Store.{blankSizes, freePlace, emptySlot, noJob, sizesAfter}
-use Rattle.paper.specs.Step.{agrees, noWrite, stands}
+use Rattle.paper.specs.Step.{agrees, noWrite, stands, isConfirmed}
 use Rattle.paper.specs.Lister.{decimal, printed, listText}
 
 -- ---- what answers say
@@ -76,6 +76,11 @@ pub record Answers : Type 0 where
   pub saved : stepSays (step.Saved 0 4) ≡ says 0 (1 ∷ 0 ∷ 4 ∷ [])
   pub cleared : stepSays (step.Cleared 0 2) ≡ says 0 (2 ∷ 0 ∷ 2 ∷ [])
   pub not-stepped : stepSays (step.Refused Differs) ≡ says 15 (0 ∷ [])
+  -- Saved and Cleared alone confirm
+  pub saved-confirms : isConfirmed (step.Saved 0 4) ≡ true
+  pub cleared-confirms : isConfirmed (step.Cleared 0 2) ≡ true
+  pub wrote-does-not : isConfirmed (step.Wrote 7 3) ≡ false
+  pub refused-does-not : isConfirmed (step.Refused Differs) ≡ false
 
 -- ---- the bootstrap in bytes
 
@@ -316,6 +321,7 @@ pub record Agrees : Type 0 where
   pub other-scan : agrees file (0 ∷ scan13) (jobWith 4 308 2560 5 0) ≡ false
   pub other-length : agrees file scan13 (jobWith 4 308 2561 5 0) ≡ false
   pub other-boot : agrees file [] (clearWith 4 0 (1 ∷ drop 1 (take 32 fileBoot))) ≡ false
+  pub bad-boot : agrees (write file 31 (2 ∷ [])) [] (clearWith 4 0 (take 31 fileBoot ++ (2 ∷ []))) ≡ false
   pub no-file : agrees [] [] (record { saves = false; slot = 0; size = 0; span = 0; first = 0; written = 0; boot = []; about = [] }) ≡ false
   pub no-scan : agrees file [] (jobWith 4 0 2560 5 0) ≡ false
   pub slot-0 : agrees file scan13 (jobWith 0 308 2560 5 0) ≡ false
