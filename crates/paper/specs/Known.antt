@@ -1,4 +1,4 @@
--- Known answers: numbers and bytes of 01 written out, each against one definition. No definition of ours stands on both sides.
+-- Known answers: numbers and bytes of 01 written out, each against one definition; `at-most` alone names another, the list that is printed.
 use Prim.Native.Nat.{ℕ, _-_}
 use mathlib.Core.Path.{_≡_}
 use mathlib.Core.Bool.{true, false}
