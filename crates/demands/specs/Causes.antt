@@ -85,10 +85,21 @@ OpenRow f row =
     (asks (bytesOf (sizesOf f) ≤ length f) PastEnd
     (IndexRow (sizesOf f) (runOf f (sizesOf f)) row)))))
 
+-- a file that may be changed
+abbrev pub ChangeRow : List ℕ → Row → Row
+ChangeRow f row = OpenRow f row
+
 -- ---- each call: "1 to 8 as numbered, then 9 or 12, 10, 11, 13"
 
+-- a slot that holds a scan
+abbrev pub HeldRow : List ℕ → ℕ → Row → Row
+HeldRow f s row = asks (InIndex (sizesOf f) s) NoSuchSlot (asks (Full (runOf f (sizesOf f) s)) EmptySlot row)
+
 abbrev pub SlotRow : List ℕ → ℕ → Row → Row
-SlotRow f s row = OpenRow f (asks (InIndex (sizesOf f) s) NoSuchSlot (asks (Full (runOf f (sizesOf f) s)) EmptySlot row))
+SlotRow f s row = OpenRow f (HeldRow f s row)
+
+abbrev pub ClearRow : List ℕ → ℕ → Row
+ClearRow f s = ChangeRow f (HeldRow f s end)
 
 -- 11: "the number of the first one broken"
 abbrev pub RuleRow : List ℕ → Bool → Row → Row
@@ -115,7 +126,7 @@ abbrev pub ScanRow : List ℕ → List ℕ → Row
 ScanRow f scan = RuleRow scan true (asks (Place f scan) NoRoom end)
 
 abbrev pub SaveRow : List ℕ → ℕ → List ℕ → Row
-SaveRow f slot scan = OpenRow f (asks (InIndex (sizesOf f) slot) NoSuchSlot (ScanRow f scan))
+SaveRow f slot scan = ChangeRow f (asks (InIndex (sizesOf f) slot) NoSuchSlot (ScanRow f scan))
 
 -- 12: "no empty slot", where there is none of these
 pub record Vacant (f : List ℕ) : Type 0 where
@@ -124,7 +135,7 @@ pub record Vacant (f : List ℕ) : Type 0 where
   pub empty : runOf f (sizesOf f) slot .first + runOf f (sizesOf f) slot .last ≡ 0
 
 abbrev pub KeepRow : List ℕ → List ℕ → Row
-KeepRow f scan = OpenRow f (asks (Vacant f) NoEmptySlot (ScanRow f scan))
+KeepRow f scan = ChangeRow f (asks (Vacant f) NoEmptySlot (ScanRow f scan))
 
 -- "A step checks 14 first .. The confirming step then gives 1 to 8, then 15": a step that has a record to write is refused with nothing but 14
 abbrev pub StepRow : List ℕ → List ℕ → Job → Row

@@ -16,7 +16,7 @@ use Rattle.paper.specs.declared.refusal.Refusal.{Refusal}
 use Rattle.paper.specs.declared.refusal.Refusal.the-variants.{BadEntry, AboveUse, SharedRecord}
 use Rattle.paper.specs.declared.answer.Opened.{Opened}
 use Rattle.paper.specs.declared.answer.Opened.the-variants.{Opens, Refused}
-use Rattle.paper.specs.Sizes.{sizesOf, versionOf, capacityOf, homeOf, startOf, bytesOf, bootChecks, Ranged}
+use Rattle.paper.specs.Sizes.{sizesOf, versionOf, capacityOf, homeOf, startOf, bytesOf, bootChecks, changeBoot, Ranged}
 
 -- bytes 0-3 and 4-7 of slot s's entry: "first record, last record"
 abbrev pub runOf : List ℕ → Sizes → ℕ → Run
@@ -83,6 +83,10 @@ indexChecks z run =
 -- refusals 1 to 8
 abbrev pub openChecks : List ℕ → List (Check Refusal)
 openChecks f = bootChecks f ++ indexChecks (sizesOf f) (runOf f (sizesOf f))
+
+-- the file may be changed: what save, keep and clear ask of it first
+abbrev pub changeChecks : List ℕ → List (Check Refusal)
+changeChecks f = changeBoot f ++ indexChecks (sizesOf f) (runOf f (sizesOf f))
 
 -- the judgement of the bootstrap alone, of an index alone, and of a file
 unfoldable pub bootOf : List ℕ → Opened

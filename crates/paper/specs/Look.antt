@@ -55,9 +55,13 @@ noSlot z s = check (not (all (slotTests z s))) NoSuchSlot
 abbrev pub noScan : Run → Check Refusal
 noScan r = check (empty r) EmptySlot
 
--- 1 to 8, then 9, then 10
+-- 9, then 10
+abbrev pub heldChecks : List ℕ → ℕ → List (Check Refusal)
+heldChecks f s = noSlot (sizesOf f) s ∷ noScan (runOf f (sizesOf f) s) ∷ []
+
+-- 1 to 8, then these
 abbrev pub slotChecks : List ℕ → ℕ → List (Check Refusal)
-slotChecks f s = openChecks f ++ (noSlot (sizesOf f) s ∷ noScan (runOf f (sizesOf f) s) ∷ [])
+slotChecks f s = openChecks f ++ heldChecks f s
 
 -- "read a slot's index entry"
 unfoldable pub foundOf : List ℕ → ℕ → Found

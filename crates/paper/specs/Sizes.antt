@@ -88,6 +88,10 @@ bootChecks f =
     ∷ check (ltb (length f) (bytesOf (sizesOf f))) PastEnd
     ∷ []
 
+-- the same, asked by a call that changes the file
+abbrev pub changeBoot : List ℕ → List (Check Refusal)
+changeBoot f = bootChecks f
+
 -- what `shaped` says
 pub record Shaped (z : Sizes) : Type 0 where
   pub n-low : 2 ≤ z .n

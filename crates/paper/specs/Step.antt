@@ -18,7 +18,7 @@ use Rattle.paper.specs.declared.job.Job.{Job}
 use Rattle.paper.specs.declared.job.Step.{Step}
 use Rattle.paper.specs.declared.job.Step.the-variants.{Wrote, Saved, Cleared, Refused}
 use Rattle.paper.specs.declared.job.Stepped.{Stepped}
-use Rattle.paper.specs.Sizes.{sizesOf, bootBytes, capacityOf, startOf, roomOf, bootChecks}
+use Rattle.paper.specs.Sizes.{sizesOf, bootBytes, capacityOf, startOf, roomOf, changeBoot}
 use Rattle.paper.specs.Index.{openOf, entryAt, Booted}
 use Rattle.paper.specs.Store.{Write, perform, countOf, paddedOf, sizesAfter, entryAfter, writesOf}
 
@@ -33,7 +33,7 @@ agreeTests f scan j z =
     eqb (length scan) (j .size)
     ∷ eqb (length f) (j .span)
     ∷ same (take 32 f) (j .boot)
-    ∷ isClear (fired (bootChecks f))
+    ∷ isClear (fired (changeBoot f))
     ∷ cond (j .saves) (ltb 0 (length scan)) true
     ∷ leb 1 (j .slot)
     ∷ leb (j .slot) (capacityOf z)

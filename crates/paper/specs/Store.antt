@@ -19,10 +19,10 @@ use Rattle.paper.specs.declared.answer.Taken.the-variants.{Accepted, Ref
 use Rattle.paper.specs.declared.job.Job.{Job}
 use Rattle.paper.specs.declared.job.Begun.{Begun}
 use Rattle.paper.specs.Sizes.{sizesOf, bootBytes, renewed, capacityOf, recordOf, startOf, homeOf, roomOf, shaped, Shaped}
-use Rattle.paper.specs.Index.{runOf, empty, sharer, openChecks}
+use Rattle.paper.specs.Index.{runOf, empty, sharer, changeChecks}
 use Rattle.paper.specs.Entry.{entryBytes}
 use Rattle.paper.specs.Scan.{ruledOf}
-use Rattle.paper.specs.Look.{noSlot, slotChecks}
+use Rattle.paper.specs.Look.{noSlot, heldChecks}
 
 -- ---- blank
 
@@ -116,17 +116,17 @@ scanChecks f scan =
 -- "1 to 8 as numbered, then 9 or 12, 10, 11, 13"
 unfoldable pub saveOf : List ℕ → ℕ → List ℕ → List ℕ → Begun
 saveOf f slot scan about =
-    judge refused (openChecks f ++ (noSlot (sizesOf f) slot ∷ scanChecks f scan)) (accepted (saveJob f slot scan about))
+    judge refused (changeChecks f ++ (noSlot (sizesOf f) slot ∷ scanChecks f scan)) (accepted (saveJob f slot scan about))
 
 abbrev pub keepSlot : List ℕ → ℕ
 keepSlot f = emptySlot (sizesOf f) (runOf f (sizesOf f))
 
 unfoldable pub keepOf : List ℕ → List ℕ → List ℕ → Begun
 keepOf f scan about =
-    judge refused (openChecks f ++ (check (eqb (keepSlot f) 0) NoEmptySlot ∷ scanChecks f scan)) (accepted (saveJob f (keepSlot f) scan about))
+    judge refused (changeChecks f ++ (check (eqb (keepSlot f) 0) NoEmptySlot ∷ scanChecks f scan)) (accepted (saveJob f (keepSlot f) scan about))
 
 unfoldable pub clearOf : List ℕ → ℕ → Begun
-clearOf f slot = judge refused (slotChecks f slot) (accepted (clearJob f slot))
+clearOf f slot = judge refused (changeChecks f ++ heldChecks f slot) (accepted (clearJob f slot))
 
 -- ---- the writes of a job
 
