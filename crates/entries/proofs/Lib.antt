@@ -1,3 +1,2 @@
-pub mod Booting
 pub mod Rows
 pub mod Judging

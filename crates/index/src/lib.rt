@@ -48,7 +48,7 @@ fn judge_sized(file: &[u8], z: Sizes) -> Opened
 pub fn judge(file: &[u8]) -> Opened
     ensures { λ r. ⌜ r ≡ openOf (now (file .entry)) ⌝ }
 {
-    let j = entries::boot::boot(file);
+    let j = bootstrap::judge::boot(file);
     let Opened::Opens(z) = j else {
         return j;
     };

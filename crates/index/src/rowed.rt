@@ -10,7 +10,7 @@ pub fn judged(file: &[u8], row: &mut [u32]) -> Opened
     requires { ⌜ 8192 ≤ length (now row) ⌝ }
     ensures { λ r. ⌜ Judged (now (file .entry)) (now (row .exit)) r ⌝ }
 {
-    let j = entries::boot::boot(file);
+    let j = bootstrap::judge::boot(file);
     let Opened::Opens(z) = j else {
         return j;
     };

@@ -34,7 +34,7 @@ fn boot_holds(file: &[u8], z: Sizes) -> bool
     if lent::read::word32(file, 28) != 1 {
         return false;
     }
-    if !entries::boot::in_range(z) {
+    if !bootstrap::ranges::in_range(z) {
         return false;
     }
     if file.len() < (z.n + z.d) * z.l {

@@ -68,7 +68,7 @@ pub fn stepped(file: &mut [u8], scan: &[u8], j: Job) -> Stepped
     ensures { λ r. ⌜ r ≡ steppedOf (now (file .entry)) (now (scan .entry)) j ⌝ }
     ensures { λ _. ⌜ now (file .exit) ≡ stepFile (now (file .entry)) (now (scan .entry)) j ⌝ }
 {
-    let z = entries::boot::sizes_at(file);
+    let z = bootstrap::words::sizes_at(file);
     if !agree::agree(file, scan, z, j) {
         return refused(j);
     }

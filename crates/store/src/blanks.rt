@@ -10,7 +10,7 @@ ghost use Rattle.store.specs.Blank.{blankFits};
 fn fits(len: usize, z: Sizes) -> bool
     ensures { λ r. ⌜ r ≡ blankFits len z ⌝ }
 {
-    if !entries::boot::shaped(z) {
+    if !bootstrap::ranges::shaped(z) {
         return false;
     }
     if len < z.n * z.l {

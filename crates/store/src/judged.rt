@@ -123,7 +123,7 @@ fn row_large(file: &[u8], z: Sizes, goal: Goal, scan: &[u8], about: [u8; 54]) ->
 pub fn begun(file: &[u8], goal: Goal, scan: &[u8], about: [u8; 54]) -> Begun
     ensures { λ b. ⌜ b ≡ begunOf (now (file .entry)) goal (now (scan .entry)) about ⌝ }
 {
-    let o = entries::boot::boot(file);
+    let o = bootstrap::judge::boot(file);
     let Opened::Opens(z) = o else {
         return begin::handed_on(o);
     };

@@ -3,7 +3,7 @@ use mathlib.Core.Path.{sym, _∙_}
 use native.Mathlib.Omega.{arith}
 use Rattle.lent.proofs.Lists.{no-all, yes-all, true≢false}
 use Rattle.paper.specs.Sizes.{bytesOf}
-use Rattle.entries.proofs.Booting.{range-kept}
+use Rattle.bootstrap.proofs.Booting.{range-kept}
 use Rattle.paper.proofs.Sizing.{bytes-small}
 use Rattle.steps.specs.Tests.{bootTests, bootHolds}
 use borrow.Author.Tests.{leb-true, le-leb, eqb-true, eq-eqb, not-true, not-false}

@@ -1,6 +1,6 @@
 use borrow.Author.Needs.{needs}
-use Rattle.entries.proofs.boot.sizes_at.Statement.{statement}
-use Rattle.entries.proofs.boot.sizes_at.Tie as tie
+use Rattle.bootstrap.proofs.words.sizes_at.Statement.{statement}
+use Rattle.bootstrap.proofs.words.sizes_at.Tie as tie
 
 pub sizes-at-spec : {M : Type 1} → statement M
 sizes-at-spec =

@@ -1,10 +1,10 @@
 use mathlib.Core.Path.{sym}
-use Rattle.entries.proofs.Booting.{not-ranged, shape-kept, shape-broken}
+use Rattle.bootstrap.proofs.Booting.{not-ranged, shape-kept, shape-broken}
 use native.Mathlib.Omega.{arith}
 use Rattle.paper.proofs.Opening.{facts-range}
 use borrow.Author.Needs.{needs}
-use Rattle.entries.proofs.boot.in_range.Statement.{statement}
-use Rattle.entries.proofs.boot.in_range.Tie as tie
+use Rattle.bootstrap.proofs.ranges.in_range.Statement.{statement}
+use Rattle.bootstrap.proofs.ranges.in_range.Tie as tie
 
 sub-if2 : tie.Need-sub-if2
 sub-if2 c = let h = shape-kept _ (c .before .before .shaped .ensures) (c .before .if1 .left) in omega arith

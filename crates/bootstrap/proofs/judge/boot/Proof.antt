@@ -1,9 +1,9 @@
-use Rattle.entries.proofs.Booting.{boot-short, boot-old, boot-unknown, boot-range, boot-past, boot-opens, range-kept}
+use Rattle.bootstrap.proofs.Booting.{boot-short, boot-old, boot-unknown, boot-range, boot-past, boot-opens, range-kept}
 use native.Mathlib.Omega.{arith}
 use Rattle.paper.proofs.Sizing.{bytes-small}
 use borrow.Author.Needs.{needs}
-use Rattle.entries.proofs.boot.boot.Statement.{statement}
-use Rattle.entries.proofs.boot.boot.Tie as tie
+use Rattle.bootstrap.proofs.judge.boot.Statement.{statement}
+use Rattle.bootstrap.proofs.judge.boot.Tie as tie
 
 returns-4 : tie.Need-returns-4
 returns-4 c = boot-range _ (omega arith) (omega arith) _ (c .before .before .sizes-at .ensures) (c .before .in-range .ensures) (c .if4 .taken)

@@ -1,10 +1,10 @@
 use native.Mathlib.Omega.{arith}
 use mathlib.Core.Path.{sym}
 use Rattle.paper.proofs.Opening.{facts-shaped}
-use Rattle.entries.proofs.Booting.{not-shaped, index-bytes}
+use Rattle.bootstrap.proofs.Booting.{not-shaped, index-bytes}
 use borrow.Author.Needs.{needs}
-use Rattle.entries.proofs.boot.shaped.Statement.{statement}
-use Rattle.entries.proofs.boot.shaped.Tie as tie
+use Rattle.bootstrap.proofs.ranges.shaped.Statement.{statement}
+use Rattle.bootstrap.proofs.ranges.shaped.Tie as tie
 
 mul-if8 : tie.Need-mul-if8
 mul-if8 c = omega (arith, index-bytes (c .before .before .before .before .before .before .before .args .z) (omega arith) (omega arith))

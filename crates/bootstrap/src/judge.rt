@@ -1,0 +1,30 @@
+//! The bootstrap judged: refusals 1 to 5.
+ghost use mathlib.Core.Path.{_≡_};
+ghost use Rattle.paper.specs.Index.{bootOf};
+use paper::answer::Opened;
+use paper::refusal::Refusal;
+
+// The judgement of the bootstrap alone.
+pub fn boot(file: &[u8]) -> Opened
+    ensures { λ r. ⌜ r ≡ bootOf (now (file .entry)) ⌝ }
+{
+    let len = file.len();
+    if len < 512 {
+        return Opened::Refused(Refusal::TooShort);
+    }
+    let version = lent::read::word32(file, 28);
+    if version == 0 {
+        return Opened::Refused(Refusal::OldForm);
+    }
+    if version != 1 {
+        return Opened::Refused(Refusal::UnknownForm);
+    }
+    let z = super::words::sizes_at(file);
+    if !super::ranges::in_range(z) {
+        return Opened::Refused(Refusal::OutOfRange);
+    }
+    if len < (z.n + z.d) * z.l {
+        return Opened::Refused(Refusal::PastEnd);
+    }
+    Opened::Opens(z)
+}
