@@ -27,12 +27,24 @@
  * bootstrap. Records are numbered from 1, slots from 1, classes from 1. Numbers inside the file are
  * big-endian; numbers in these structs are the machine's own.
  *
+ * Two forms of file. Bytes 28 to 31, the eighth 32-bit word, say which: 1 the current form, 0 the
+ * old one from before 1993. An old file has N, D, L, M, U and counter as 16-bit words in bytes 0 to 11;
+ * the rest of its record 1 is not judged. Its entries begin with first record, last record, magic
+ * number and position code as 16-bit numbers; bytes 8 to 59 are as in the current form, and what
+ * follows them is not judged. A 16-bit word stands for the 32-bit word of the same value, so a negative
+ * one is above every limit; the counter alone has 16 plain bits. The type is 0. Ranges and rules are
+ * the current form's. Where an entry's magic number is 2 its scan is SDD version 1; where it is another
+ * (1 is IEEE KEEP) the scan is listed and shown but not read (18). Old files are looked at, by open,
+ * list, entry_at, show and read. They are not changed: save, keep and clear answer 2 and a step 14, and
+ * blank makes files of the current form alone.
+ *
  * The refusals by number. Each call's comment has its own in the order in which they are looked
- * for: "open's own", 1 to 8, as numbered; then 9 or 12, 10, 11, 13 (so a keep's 12 comes before its
- * 11); a list's 17 last; a step's 14 first, and of a confirming step then 1 to 8 and 15.
+ * for. A call that looks at a file has "open's own", 1 and then 3 to 8 as numbered; one that begins
+ * a change has 1 to 8. Then come 9 or 12, 10, 18, 11, 13 (so a keep's 12 comes before its 11); a list's
+ * 17 last; a step's 14 first, and of a confirming step then open's own and 15.
  *
  *    1  fewer than 512 bytes
- *    2  the old form of file (word 8 is 0)
+ *    2  save, keep, clear: the file has the old form (word 8 is 0), which is not changed
  *    3  no version that is known (word 8 is neither 0 nor 1)
  *    4  a bootstrap number outside its range, or a capacity above 4,096
  *    5  the bootstrap speaks of more bytes than were lent
@@ -48,6 +60,7 @@
  *   15  confirming step: the entry or the records are not what the job gives
  *   16  blank: sizes outside their ranges, or too large for what was lent
  *   17  what was lent for the answer is too short to hold it
+ *   18  read: the entry of an old file says that the scan is not of version 1 (its magic is not 2)
  */
 #ifndef SDD_H
 #define SDD_H
@@ -77,16 +90,21 @@ enum {
   SDD_JOB_DISAGREES = 14,
   SDD_NOT_CONFIRMED = 15,
   SDD_BAD_SIZES = 16,
-  SDD_ANSWER_TOO_LONG = 17
+  SDD_ANSWER_TOO_LONG = 17,
+  SDD_NOT_VERSION_ONE = 18
 };
 
 /* What a step did, as `done` has it. */
 enum { SDD_WROTE = 0, SDD_SAVED = 1, SDD_CLEARED = 2 };
 
+/* Which form a file has, as `version` has it. */
+enum { SDD_OLD = 0, SDD_CURRENT = 1 };
+
 /* What an entry's mode says, as `kind` has it. */
 enum { SDD_OTHER = 0, SDD_CONTINUUM = 1, SDD_SPECTRAL_LINE = 2 };
 
-/* `about`, the entry's bytes 8 to 61 that a save puts into the index beside the scan's records. All
+/* `about`, the entry's bytes 8 to 61 that a save puts into the index beside the scan's records (bytes
+ * of the current form, which alone is saved to; an old entry has its position code elsewhere). All
  * numbers are big-endian, floats IEEE; every bit is kept as it is given. Its bytes:
  *
  *    0 to  3  horizontal coordinate in degrees (Real*4)
@@ -119,7 +137,7 @@ enum { SDD_OTHER = 0, SDD_CONTINUUM = 1, SDD_SPECTRAL_LINE = 2 };
 
 /* Why a call was refused; {0, 0} where it was not. */
 typedef struct {
-  uint32_t number; /* 1 to 17 as above, 0: accepted */
+  uint32_t number; /* 1 to 18 as above, 0: accepted */
   uint32_t value;  /* the slot (6, 7, 8) or the rule (11), else 0 */
 } sdd_refusal;
 
@@ -131,10 +149,11 @@ typedef struct {
   uint64_t l;        /* bytes per record, 512 to 4,096 */
   uint64_t m;        /* bytes per index entry, 64 to l, divides l */
   uint64_t u;        /* entries in use: at least the highest slot with a scan */
-  uint64_t counter;  /* goes up by one at each job; 32 bits, after all ones comes zero */
-  uint64_t type;     /* 0 data, 1 individual records */
+  uint64_t counter;  /* goes up by one at each job; 32 bits, after all ones comes zero; old form: 16 bits */
+  uint64_t type;     /* 0 data, 1 individual records; old form: 0 */
   uint64_t capacity; /* slots, at most 4,096 */
   uint64_t room;     /* whole records lent, at most 1,000,000 */
+  uint64_t version;  /* 0 old, 1 current: SDD_OLD, SDD_CURRENT */
 } sdd_opened;
 
 /* How many scans were listed. */
@@ -162,6 +181,7 @@ typedef struct {
   int16_t  mode;                 /* 256 to 304 continuum, 512 to 560 spectral line */
   int16_t  number;               /* record x 64 + phase */
   int16_t  position;             /* position code */
+  int16_t  magic;                /* old form: 1 IEEE KEEP, 2 SDD version 1; current form, which has none: 0 */
   uint16_t kind;                 /* what the mode says: SDD_OTHER, SDD_CONTINUUM or SDD_SPECTRAL_LINE */
   float    single_value;         /* the value of field4; some NaN where its bits are one's */
   double   double_value;         /* the value of field8 likewise */
@@ -198,27 +218,28 @@ typedef struct {
   sdd_job job;
 } sdd_stepped;
 
-/* Judges the file and answers its sizes.
- * Lent: the file, to look at. Refusals: open's own, 1 to 8. */
+/* Judges the file and answers its sizes and its form.
+ * Lent: the file, to look at. Refusals: open's own, 1 and then 3 to 8. */
 sdd_opened sdd_open(const uint8_t *file, size_t file_len);
 
 /* Lists the scans in slot order: slot, first and last record, three elements of `out` for each.
  * Lent: the file, to look at; `out`, out_len elements to write. Answered: the number of scans; the
  * elements after 3 x scans are not touched, and 3 x capacity elements are always enough.
- * Refusals: 1 to 8, then 17 where out_len is less than 3 x scans. */
+ * Refusals: 1, 3 to 8, then 17 where out_len is less than 3 x scans. */
 sdd_listed sdd_list(const uint8_t *file, size_t file_len, uint32_t *out, size_t out_len);
 
-/* Answers the index entry of a slot.
- * Lent: the file, to look at. Refusals: 1 to 8, then 9, then 10 where the slot is empty. */
+/* Answers the index entry of a slot, with its magic number where the file has the old form.
+ * Lent: the file, to look at. Refusals: 1, 3 to 8, then 9, then 10 where the slot is empty. */
 sdd_entry sdd_entry_at(const uint8_t *file, size_t file_len, uint64_t slot);
 
-/* Shows a slot's records: the part of the file from its first record to the end of its last.
- * Lent: the file, to look at. Refusals: 1 to 8, then 9, then 10. */
+/* Shows a slot's records: the part of the file from its first record to the end of its last. An old
+ * file's are shown whatever its magic number says they are.
+ * Lent: the file, to look at. Refusals: 1, 3 to 8, then 9, then 10. */
 sdd_span sdd_show(const uint8_t *file, size_t file_len, uint64_t slot);
 
 /* Reads a slot's scan: the part of the file that is the first HEADLEN + DATALEN bytes of its records.
- * Lent: the file, to look at. Refusals: 1 to 8, then 9, then 10, then 11 with the first of rules 1
- * to 5 that the records break. */
+ * Lent: the file, to look at. Refusals: 1, 3 to 8, then 9, then 10, then 18 where the entry of an old
+ * file has a magic number other than 2, then 11 with the first of rules 1 to 5 that the records break. */
 sdd_span sdd_read(const uint8_t *file, size_t file_len, uint64_t slot);
 
 /* Answers where class `number` of a scan stands: bytes of the run.
@@ -231,7 +252,8 @@ sdd_span sdd_class(const uint8_t *run, size_t run_len, uint64_t number);
  * Lent: a run of bytes, to look at. Refusals: 11 with the first of rules 1 to 5 that it breaks. */
 sdd_span sdd_data(const uint8_t *run, size_t run_len);
 
-/* Makes a file with no scans: writes N records (bootstrap and an empty index) and nothing beyond.
+/* Makes a file with no scans, of the current form (there is no call that makes an old one): writes N
+ * records (bootstrap and an empty index) and nothing beyond.
  * Lent: the file, whose first n x l bytes are written where the call is accepted.
  * Refusals: 16. */
 sdd_refusal sdd_blank(uint8_t *file, size_t file_len, uint64_t n, uint64_t l, uint64_t m);
@@ -240,17 +262,18 @@ sdd_refusal sdd_blank(uint8_t *file, size_t file_len, uint64_t n, uint64_t l, ui
  * job, with the same scan, until it is confirmed. The scan goes to the lowest free records in a row
  * that hold it; the slot's present scan stays whole and listed until the last record is written.
  * Lent: the file, the scan and the entry's bytes 8 to 61, all to look at.
- * Refusals: 1 to 8, then 9, then 11 with the first of rules 1 to 6 that the scan breaks, then 13. */
+ * Refusals: 1 to 8 (2 on an old file), then 9, then 11 with the first of rules 1 to 6 that the scan
+ * breaks, then 13. */
 sdd_begun sdd_save(const uint8_t *file, size_t file_len, uint64_t slot, const uint8_t *scan,
                    size_t scan_len, const uint8_t about[54]);
 
 /* Begins to keep a scan: a save to the lowest empty slot, which the job names.
- * Refusals: 1 to 8, then 12, then 11, then 13. */
+ * Refusals: 1 to 8 (2 on an old file), then 12, then 11, then 13. */
 sdd_begun sdd_keep(const uint8_t *file, size_t file_len, const uint8_t *scan, size_t scan_len,
                    const uint8_t about[54]);
 
 /* Begins to clear a slot. Nothing is written yet: step the job, with an empty scan.
- * Lent: the file, to look at. Refusals: 1 to 8, then 9, then 10. */
+ * Lent: the file, to look at. Refusals: 1 to 8 (2 on an old file), then 9, then 10. */
 sdd_begun sdd_clear(const uint8_t *file, size_t file_len, uint64_t slot);
 
 /* Does the next step of a job. Each step writes at most one record: the scan's k records (the last
@@ -273,7 +296,8 @@ sdd_begun sdd_clear(const uint8_t *file, size_t file_len, uint64_t slot);
  *
  * Lent: the file, in which the one record is written where the step is accepted; the scan the job
  * was begun with (empty for a clear), to look at; the job as the last step handed it back.
- * Refusals: 14 first; the confirming step then also 1 to 8, then 15. */
+ * Refusals: 14 first, and always on a file of the old form, whatever the job says; the confirming step
+ * then also open's own, then 15. */
 sdd_stepped sdd_step(uint8_t *file, size_t file_len, const uint8_t *scan, size_t scan_len,
                      sdd_job job);
 

@@ -75,7 +75,8 @@ static inline void sdd_about_put(const sdd_about *about, uint8_t bytes[SDD_ABOUT
   sdd_put(bytes + 52, 2, (uint16_t)about->position);
 }
 
-/* The fields of 54 bytes. */
+/* The fields of 54 bytes. They are the current form's: an old file has its position code in front of
+ * them, and sdd_entry_at gives its fields. */
 static inline sdd_about sdd_about_get(const uint8_t bytes[SDD_ABOUT]) {
   sdd_about about;
   about.horizontal = (uint32_t)sdd_get(bytes, 4);
@@ -124,8 +125,9 @@ static inline const char *sdd_sentence(sdd_refusal why) {
       return "the file has fewer than 512 bytes, so it is no SDD file: check that it was "
              "copied whole";
     case SDD_OLD_FORM:
-      return "the file has the old form from before 1993: convert it to the new form at the "
-             "station first";
+      return "the file has the old form from before 1993, which is looked at here and not "
+             "changed: save to a file of the current form, as blank makes one, or have the "
+             "station convert this one";
     case SDD_UNKNOWN_VERSION:
       return "the file is of no version that is known: check that it is an SDD file";
     case SDD_BAD_BOOTSTRAP:
@@ -166,6 +168,9 @@ static inline const char *sdd_sentence(sdd_refusal why) {
     case SDD_ANSWER_TOO_LONG:
       return "the answer does not fit into what was lent for it: lend three numbers for each "
              "scan";
+    case SDD_NOT_VERSION_ONE:
+      return "the old file says that this scan is not of SDD version 1, so it is not read: "
+             "show its records as they stand, or have the station convert it";
     default:
       return "";
   }

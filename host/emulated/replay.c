@@ -21,6 +21,8 @@ void exit(int status);
 
 enum { PROT_NONE = 0, PROT_READ = 1, PROT_READ_WRITE = 3, MAP_PRIVATE = 2, MAP_ANONYMOUS = 32 };
 enum { CALLS = 12, UNTOUCHED = 0x5a };
+/* a file above this size is not compared whole after every call, but when the next one comes */
+#define LARGE ((size_t)1 << 20)
 /* a multiple of every page size there is, on whatever machine the emulator runs */
 #define PAGE ((size_t)65536)
 
@@ -100,7 +102,7 @@ static void put_job(const sdd_job *job) {
 
 static void put_opened(sdd_opened a) {
   PUT(a.why), PUT(a.n), PUT(a.d), PUT(a.l), PUT(a.m), PUT(a.u), PUT(a.counter), PUT(a.type);
-  PUT(a.capacity), PUT(a.room);
+  PUT(a.capacity), PUT(a.room), PUT(a.version);
 }
 
 static void put_span(sdd_span a) { PUT(a.why), PUT(a.from), PUT(a.to); }
@@ -125,7 +127,7 @@ static void put_entry(sdd_entry a) {
   if (a.double_value == a.double_value) memcpy(&twice, &a.double_value, 8);
   PUT(a.why), PUT(a.first), PUT(a.last), PUT(a.horizontal), PUT(a.vertical), PUT(a.source);
   PUT(a.scan), PUT(a.field4), PUT(a.field8), PUT(a.lst), PUT(a.date), PUT(a.mode), PUT(a.number);
-  PUT(a.position), PUT(a.kind), PUT(single), PUT(twice);
+  PUT(a.position), PUT(a.magic), PUT(a.kind), PUT(single), PUT(twice);
 }
 
 /* ---- the calls */
@@ -204,12 +206,23 @@ static int agrees(int call) {
     size_t at = number(), size = number();
     memcpy(wanted.at + at, bytes(size), size);
   }
-  same &= memcmp(file.at, wanted.at, wanted.len) == 0;
+  if (wanted.len <= LARGE) same &= memcmp(file.at, wanted.at, wanted.len) == 0;
   same &= out_stands(call);
   return same;
 }
 
+static unsigned long made[CALLS], agreed, told, spoilt;
+
+/* Looks at a file for the last time. */
+static void last_look(void) {
+  if (wanted.len > LARGE && memcmp(file.at, wanted.at, wanted.len) != 0) {
+    spoilt++;
+    printf("replay: a file of %lu bytes is not as the model has it\n", (unsigned long)wanted.len);
+  }
+}
+
 static void new_file(size_t len) {
+  last_look();
   drop(file), drop(wanted);
   file = lend(len), wanted = lend(len);
 }
@@ -226,8 +239,6 @@ static void copy(lent *to, size_t len) {
   *to = lend(len);
   memcpy(to->at, bytes(len), len);
 }
-
-static unsigned long made[CALLS], agreed, told;
 
 static void one_call(void) {
   int call = *bytes(1);
@@ -247,7 +258,7 @@ static void replay(void) {
     case 'S': copy(&scan, number()); break;
     case 'A': copy(&about, 54); break;
     case 'C': one_call(); break;
-    case 'E': return;
+    case 'E': last_look(); return;
     default: stop("the file of cases is damaged");
     }
   }
@@ -264,5 +275,5 @@ int main(int count, char **words) {
     all += made[call];
   }
   printf("%lu of %lu calls agreed\n", agreed, all);
-  return agreed == all && all > 0 ? 0 : 1;
+  return agreed == all && all > 0 && spoilt == 0 ? 0 : 1;
 }

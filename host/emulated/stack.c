@@ -1,4 +1,4 @@
-/* stack: makes every call on full files of 4,096 slots, and holds the stack that each of them used
+/* stack: makes every call on full files of 4,096 slots in both forms, and holds the stack that each of them used
  * against what sdd.h says that it needs at most. host/bench does the same for the machine's own code.
  */
 #include "sdd.h"
@@ -9,7 +9,9 @@ int printf(const char *format, ...);
 
 enum { READ_WRITE = 3, PRIVATE_ANONYMOUS_NORESERVE = 0x4022 };
 enum { PAINTED = 512 * 1024, PAINT = 0xa5 };
-enum { N = 513, L = 512, M = 64, USED = 4000, RUN = 128, ROOM = 1000000, SCAN = 65536 };
+enum { N = 513, L = 512, M = 64, USED = 4000, ROOM = 1000000, SCAN = 65536 };
+/* records of a scan and after it a free one: as many as the form can name */
+enum { RUN = 128, OLD_RUN = 7 };
 
 static uint8_t *file, scan[SCAN], about[54];
 static const size_t LEN = (size_t)ROOM * L;
@@ -33,14 +35,24 @@ static void make_scan(uint8_t *at, uint32_t data) {
   put(at + 40, 8, data);
 }
 
-static void make_file(int falls) {
-  static const uint32_t words[] = {N, USED * (RUN + 1), L, M, USED, 7, 0, 1};
-  uint32_t slot, first;
-  for (slot = 0; slot < 8; slot++) put(file + 4 * slot, 4, words[slot]);
+static void make_boot(int old, uint32_t run) {
+  const uint32_t words[] = {N, USED * (run + 1), L, M, USED, 7};
+  int word, size = old ? 2 : 4;
+  for (word = 0; word < 32; word++) file[word] = 0;
+  for (word = 0; word < 6; word++) put(file + size * word, size, words[word]);
+  put(file + 28, 4, !old);
+}
+
+static void make_file(int old, int falls) {
+  uint32_t slot, first, run = old ? OLD_RUN : RUN;
+  int size = old ? 2 : 4;
+  make_boot(old, run);
   for (slot = 1; slot <= USED; slot++) {
-    first = N + 1 + (falls ? USED - slot : slot - 1) * (RUN + 1);
-    put(file + L + (slot - 1) * M, 4, first);
-    put(file + L + (slot - 1) * M + 4, 4, first + RUN - 1);
+    uint8_t *entry = file + L + (slot - 1) * M;
+    first = N + 1 + (falls ? USED - slot : slot - 1) * (run + 1);
+    put(entry, size, first);
+    put(entry + size, size, first + run - 1);
+    if (old) put(entry + 4, 2, 2);
     make_scan(file + (uint64_t)(first - 1) * L, 0);
   }
 }
@@ -108,13 +120,14 @@ static __attribute__((noinline)) long depth(void (*call)(void)) {
 
 int main(void) {
   unsigned i, wrong = 0;
-  int falls;
+  int kind;
   file = mmap(NULL, LEN, READ_WRITE, PRIVATE_ANONYMOUS_NORESERVE, -1, 0);
   if (file == (uint8_t *)-1) return 2;
   make_scan(scan, 0);
   put(scan + 40, 8, 0x40efe00000000000); /* 65,280 */
-  for (falls = 0; falls <= 1; falls++) {
-    make_file(falls);
+  /* the old form first: a job is left only by the current one */
+  for (kind = 0; kind < 4; kind++) {
+    make_file(kind < 2, kind % 2);
     for (i = 0; i < sizeof CALLS / sizeof *CALLS; i++) {
       long bytes = depth(CALLS[i].call);
       int holds = bytes <= CALLS[i].most;

@@ -66,16 +66,12 @@ static window open_file(const char *path) {
 }
 
 /* Records 1 to N are all that a save looks at before it is confirmed. */
-static sdd_opened look(const window *file) {
+static void look(const window *file) {
   uint64_t n, l;
-  sdd_opened opened;
   if (!fill(file, file->fd, 0, 512)) stop("the first record");
   n = sdd_get(file->bytes, 4), l = sdd_get(file->bytes + 8, 4);
-  /* where a file has other numbers, the library refuses it by them alone */
+  /* where a file has other numbers, or the old form, a save refuses it by its first 32 bytes alone */
   if (n <= 513 && l <= 4096 && !fill(file, file->fd, 0, n * l)) stop("the index");
-  opened = sdd_open(file->bytes, file->len);
-  accept_or_stop(opened.why);
-  return opened;
 }
 
 /* Writes a record by one call: a short write is not continued, half a record is no record. */
@@ -138,9 +134,9 @@ int main(int argc, char **argv) {
   fclose(from);
 
   window file = open_file(argv[1]);
-  sdd_opened opened = look(&file);
+  look(&file);
   sdd_begun begun = sdd_save(file.bytes, file.len, strtoull(argv[2], NULL, 10), scan, len, bytes);
   accept_or_stop(begun.why);
-  run(&file, argv[1], opened, scan, len, begun.job);
+  run(&file, argv[1], sdd_open(file.bytes, file.len), scan, len, begun.job);
   return 0;
 }

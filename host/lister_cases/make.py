@@ -1,5 +1,5 @@
 #!/usr/bin/env python3
-"""A small lister, written from document 01 alone, and the files that the programs lister and lister_cases are run on.
+"""A small lister, written from document 01 and request 2026-01 of 02 alone, and the files that the programs lister and lister_cases are run on.
 
     python3 make.py ../../crates
 
@@ -30,13 +30,29 @@ def file_of(n, d, l, m, u, entries, counter=0, length=None):
     return bytes(f)
 
 
+def old_file_of(n, d, l, m, u, entries, counter=0, magic=2):
+    """The same in the old form. Empty entries have a magic number and a position code too, and bytes 12 to 27 are junk."""
+    f = bytearray(file_of(n, d, l, m, 0, {}))
+    f[:32] = struct.pack(">5hH", n, d, l, m, u, counter) + b"\xa5" * 16 + bytes(4)
+    for slot in range(1, (n - 1) * l // m + 1):
+        home = l + (slot - 1) * m
+        f[home : home + 8] = struct.pack(">4h", *entries.get(slot, (0, 0)), magic, -13)
+        f[home + 8 : home + m] = b"\x5a" * (m - 8)
+    return bytes(f)
+
+
 def patched(f, word, value):
     """The same with bootstrap word `word`, counted from 1, changed."""
     return f[: 4 * word - 4] + struct.pack(">I", value) + f[4 * word :]
 
 
+def old_patched(f, word, value):
+    """The same in the old form, whose words have 16 bits."""
+    return f[: 2 * word - 2] + struct.pack(">h", value) + f[2 * word :]
+
+
 def lister(f):
-    """What 01 says that the lister prints."""
+    """What 01 says that the lister prints, of either form."""
     if len(f) > LONGEST:
         return "too long\n"
 
@@ -46,18 +62,20 @@ def lister(f):
     if len(f) < 512:
         return refused(1)
     n, d, l, m, u, _, kind, version = struct.unpack(">8I", f[:32])
-    if version == 0:
-        return refused(2)
-    if version != 1:
+    if version not in (0, 1):
         return refused(3)
-    if not (2 <= n <= 513 and n + d <= 1000000 and 512 <= l <= 4096 and 64 <= m <= l and l % m == 0 and kind <= 1):
+    if version == 0:
+        n, d, l, m, u, _ = struct.unpack(">5hH", f[:12])
+        kind = 0
+    if not (2 <= n <= 513 and 0 <= d and n + d <= 1000000 and 512 <= l <= 4096 and 64 <= m <= l and l % m == 0 and kind <= 1):
         return refused(4)
     slots = (n - 1) * l // m
-    if slots > 4096 or u > slots:
+    if slots > 4096 or not 0 <= u <= slots:
         return refused(4)
     if (n + d) * l > len(f):
         return refused(5)
-    runs = [struct.unpack(">2I", f[l + s * m : l + s * m + 8]) for s in range(slots)]
+    pair = ">2I" if version == 1 else ">2h"
+    runs = [struct.unpack_from(pair, f, l + s * m) for s in range(slots)]
     for s, (first, last) in enumerate(runs[:u], 1):
         if (first, last) != (0, 0) and not n + 1 <= first <= last <= n + d:
             return refused(6, s)
@@ -75,21 +93,22 @@ def lister(f):
     return head + "".join(f"{s} {first} {last}\n" for s, first, last in scans)
 
 
-def run_of_the_paper():
+def run_of_the_paper(make=file_of):
     """Blank 4,096 bytes with N 3, L 512, M 64; then 1,000 bytes to slot 1, 512 to slot 9, and 1,000 to slot 1 again."""
-    return file_of(3, 5, 512, 64, 9, {1: (7, 8), 9: (6, 6)}, counter=3)
+    return make(3, 5, 512, 64, 9, {1: (7, 8), 9: (6, 6)}, counter=3)
 
 
 PAPER = "slots 16 used 9 scans 2\n1 7 8\n9 6 6\n"
 GOOD = file_of(2, 6, 512, 64, 5, {1: (3, 4), 3: (5, 5), 5: (7, 8)})
+OLD = old_file_of(2, 6, 512, 64, 5, {1: (3, 4), 3: (5, 5), 5: (7, 8)}, counter=0xFFFF)
 FULL = file_of(2, 8, 512, 64, 8, {s: (11 - s, 11 - s) for s in range(1, 9)})
 WIDE = file_of(9, 119, 512, 64, 64, {s: (8 + 2 * s, 8 + 2 * s) for s in range(1, 60)} | {64: (127, 128)})
 
 CASES = [
     ("empty", b"", "refused 1 slot 0\n"),
     ("bytes_511", GOOD[:511], "refused 1 slot 0\n"),
-    ("old_form", patched(GOOD, 8, 0), "refused 2 slot 0\n"),
     ("unknown_form", patched(GOOD, 8, 2), "refused 3 slot 0\n"),
+    ("version_0", patched(GOOD, 8, 0), "refused 4 slot 0\n"),
     ("n_514", patched(GOOD, 1, 514), "refused 4 slot 0\n"),
     ("m_96", patched(GOOD, 4, 96), "refused 4 slot 0\n"),
     ("u_above_capacity", patched(GOOD, 5, 9), "refused 4 slot 0\n"),
@@ -107,6 +126,19 @@ CASES = [
     ("one_record_more", GOOD + bytes(511), "slots 8 used 5 scans 3\n1 3 4\n3 5 5\n5 7 8\n"),
     ("full", FULL, "slots 8 used 8 scans 8\n1 10 10\n2 9 9\n3 8 8\n4 7 7\n5 6 6\n6 5 5\n7 4 4\n8 3 3\n"),
     ("paper_run", run_of_the_paper(), PAPER),
+    ("old_run", run_of_the_paper(old_file_of), PAPER),
+    ("old_magics", run_of_the_paper(lambda *words, **more: old_file_of(*words, magic=1, **more)), PAPER),
+    ("old_counter", OLD, "slots 8 used 5 scans 3\n1 3 4\n3 5 5\n5 7 8\n"),
+    ("old_bytes_511", OLD[:511], "refused 1 slot 0\n"),
+    ("old_unknown", patched(OLD, 8, 0x00010000), "refused 3 slot 0\n"),
+    ("old_version_1", patched(OLD, 8, 1), "refused 4 slot 0\n"),
+    ("old_minus_1", old_patched(OLD, 2, -1), "refused 4 slot 0\n"),
+    ("old_u_minus_1", old_patched(OLD, 5, -1), "refused 4 slot 0\n"),
+    ("old_cut_short", OLD[:-1], "refused 5 slot 0\n"),
+    ("old_negative", old_file_of(2, 6, 512, 64, 5, {1: (3, 4), 4: (-32768, -32768)}), "refused 6 slot 4\n"),
+    ("old_past_d", old_file_of(2, 6, 512, 64, 5, {1: (3, 4), 5: (7, 9)}), "refused 6 slot 5\n"),
+    ("old_above_use", old_file_of(2, 6, 512, 64, 5, {1: (3, 4), 7: (-1, 0)}), "refused 7 slot 7\n"),
+    ("old_shared", old_file_of(2, 6, 512, 64, 8, {2: (3, 5), 4: (6, 6), 7: (5, 5), 8: (6, 6)}), "refused 8 slot 7\n"),
     ("bytes_65536", WIDE, None),
     ("bytes_65537", WIDE + b"\0", "too long\n"),
 ]
@@ -121,6 +153,8 @@ def main(crates):
         assert text is None or lister(data) == text, f"{name}: {lister(data)!r} is not {text!r}"
     assert len(WIDE) == LONGEST and lister(WIDE).startswith("slots 64 used 64 scans 60\n1 10 10\n")
     (cases / "data").mkdir(exist_ok=True)
+    for left in set(path.name for path in (cases / "data").iterdir()) - set(name for name, _, _ in CASES):
+        (cases / "data" / left).unlink()
     for name, data, _ in CASES:
         (cases / "data" / name).write_bytes(data)
     names = [name for name, _, _ in CASES] + [name for name, _ in UNREAD]

@@ -1,20 +1,52 @@
 -- The answers of the bootstrap's judgement, one law for each return.
-use Prim.Native.Nat.{ℕ, _-_, _*_, _≤_, _<_}
-use mathlib.Core.Path.{_≡_, sym, _∙_, subst}
+use Prim.Native.Nat.{ℕ, _+_, _-_, _*_, _≤_, _<_}
+use mathlib.Core.Path.{_≡_, sym, _∙_, ap, subst}
 use mathlib.Core.Bool.{Bool, true, false, not}
 use mathlib.Core.List.{List}
 use native.Mathlib.Nat.{mul-le-mul}
 use native.Mathlib.Omega.{arith}
-use lib.Dec.{eqb}
+use lib.Dec.{ltb}
 use lib.ListN.{length}
 use borrow.Author.Tests.{lt-ltb, le-ltb, eq-eqb, ne-eqb, not-true, not-false}
+use Rattle.lent.specs.Number.{be16, be32, widened}
 use Rattle.lent.proofs.Lists.{not-so, true≢false}
 use Rattle.paper.specs.declared.sizes.Sizes.{Sizes}
-use Rattle.paper.specs.declared.refusal.Refusal.the-variants.{TooShort, OldForm, UnknownForm, OutOfRange, PastEnd}
+use Rattle.paper.specs.declared.refusal.Refusal.the-variants.{TooShort, UnknownForm, OutOfRange, PastEnd}
 use Rattle.paper.specs.declared.answer.Opened.the-variants.{Opens, Refused}
-use Rattle.paper.specs.Sizes.{sizesOf, versionOf, bytesOf, shaped, inRange, Shaped, Ranged}
+use Rattle.paper.specs.Sizes.{byForm, wordAt, counterOf, typeOf, sizesOf, versionOf, bytesOf, shaped, inRange, Shaped, Ranged}
 use Rattle.paper.specs.Index.{bootOf}
+use Rattle.paper.proofs.Forms.{by-old, by-current}
 use Rattle.paper.proofs.Opening.{shaped-facts, facts-shaped, range-facts, facts-range}
+
+module _ (f : List ℕ) {r : ℕ} where
+  pub counter-old : versionOf f ≡ 0 → r ≡ be16 f 10 → r ≡ counterOf f
+  unfolding counterOf
+  counter-old e p = p ∙ by-old (versionOf f) _ _ e
+
+  pub counter-current : (versionOf f ≡ 0 → ⊥) → r ≡ be32 f 20 → r ≡ counterOf f
+  unfolding counterOf
+  counter-current h p = p ∙ by-current (versionOf f) _ _ h
+
+  pub type-old : versionOf f ≡ 0 → r ≡ 0 → r ≡ typeOf f
+  unfolding typeOf
+  type-old e p = p ∙ by-old (versionOf f) _ _ e
+
+  pub type-current : (versionOf f ≡ 0 → ⊥) → r ≡ be32 f 24 → r ≡ typeOf f
+  unfolding typeOf
+  type-current h p = p ∙ by-current (versionOf f) _ _ h
+
+-- the sizes are right where each of them is
+pub sizes-is : (f : List ℕ) (v : ℕ) {n d l m u c k : ℕ}
+    → v ≡ versionOf f
+    → n ≡ wordAt v f 0 0
+    → d ≡ wordAt v f 0 1
+    → l ≡ wordAt v f 0 2
+    → m ≡ wordAt v f 0 3
+    → u ≡ wordAt v f 0 4
+    → c ≡ counterOf f
+    → k ≡ typeOf f
+    → _≡_ {A = Sizes} (record { n = n; d = d; l = l; m = m; u = u; counter = c; kind = k; version = v }) (sizesOf f)
+sizes-is f v e0 e1 e2 e3 e4 e5 e6 e7 = cc
 
 -- sizes that break a range
 pub not-shaped : (z : Sizes) → (Shaped z → ⊥) → false ≡ shaped z
@@ -43,30 +75,27 @@ module _ (f : List ℕ) where
   boot-short a = simp (lt-ltb _ _ a)
 
   module _ (long : 512 ≤ length f) where
-    pub boot-old : versionOf f ≡ 0 → Refused OldForm ≡ bootOf f
-    unfolding bootOf
-    boot-old b = simp (le-ltb _ _ long, eq-eqb _ _ b)
+    module _ (z : Sizes) (s : z ≡ sizesOf f) where
+      pub boot-unknown : 1 < z .version → Refused UnknownForm ≡ bootOf f
+      unfolding bootOf
+      boot-unknown b = let k = lt-ltb _ _ (subst (λ (y : Sizes). 1 < y .version) s b) in simp (le-ltb _ _ long, k)
 
-    pub boot-unknown : (versionOf f ≡ 0 → ⊥) → (versionOf f ≡ 1 → ⊥) → Refused UnknownForm ≡ bootOf f
-    unfolding bootOf
-    boot-unknown b c = simp (le-ltb _ _ long, ne-eqb _ _ b, ne-eqb _ _ c)
-
-    module _ (known : versionOf f ≡ 1) (z : Sizes) (s : z ≡ sizesOf f) where
-      new : eqb (versionOf f) 0 ≡ false
-      new = ne-eqb (versionOf f) 0 (λ e. omega arith)
+    module _ (z : Sizes) (s : z ≡ sizesOf f) (known : z .version ≤ 1) where
+      form : ltb 1 (versionOf f) ≡ false
+      form = le-ltb _ _ (subst (λ (y : Sizes). y .version ≤ 1) s known)
 
       pub boot-range : {b : Bool} → b ≡ inRange z → not b ≡ true → Refused OutOfRange ≡ bootOf f
       unfolding bootOf
-      boot-range e h = simp (le-ltb _ _ long, eq-eqb _ _ known, new, ← s, ← e, h)
+      boot-range e h = simp (le-ltb _ _ long, form, ← s, ← e, h)
 
       pub boot-past : Ranged z → length f < bytesOf z → Refused PastEnd ≡ bootOf f
       unfolding bootOf
       boot-past c d =
           let k = lt-ltb _ _ (subst (λ (y : Sizes). length f < bytesOf y) s d) in
-          simp (le-ltb _ _ long, eq-eqb _ _ known, new, ← s, facts-range z c, k)
+          simp (le-ltb _ _ long, form, ← s, facts-range z c, k)
 
       pub boot-opens : Ranged z → bytesOf z ≤ length f → Opens z ≡ bootOf f
       unfolding bootOf
       boot-opens c d =
           let k = le-ltb _ _ (subst (λ (y : Sizes). bytesOf y ≤ length f) s d) in
-          simp (le-ltb _ _ long, eq-eqb _ _ known, new, ← s, facts-range z c, k)
+          simp (le-ltb _ _ long, form, ← s, facts-range z c, k)

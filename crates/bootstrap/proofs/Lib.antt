@@ -1,1 +1,2 @@
 pub mod Booting
+pub mod Changing

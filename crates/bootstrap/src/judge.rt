@@ -1,4 +1,4 @@
-//! The bootstrap judged: refusals 1 to 5.
+//! The bootstrap judged: refusals 1 and 3 to 5.
 ghost use mathlib.Core.Path.{_≡_};
 ghost use Rattle.paper.specs.Index.{bootOf};
 use paper::answer::Opened;
@@ -12,14 +12,10 @@ pub fn boot(file: &[u8]) -> Opened
     if len < 512 {
         return Opened::Refused(Refusal::TooShort);
     }
-    let version = lent::read::word32(file, 28);
-    if version == 0 {
-        return Opened::Refused(Refusal::OldForm);
-    }
-    if version != 1 {
+    let z = super::words::sizes_at(file);
+    if 1 < z.version {
         return Opened::Refused(Refusal::UnknownForm);
     }
-    let z = super::words::sizes_at(file);
     if !super::ranges::in_range(z) {
         return Opened::Refused(Refusal::OutOfRange);
     }

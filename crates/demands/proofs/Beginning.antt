@@ -16,7 +16,7 @@ use Rattle.paper.specs.declared.job.Begun.{Begun}
 use Rattle.paper.specs.Sizes.{sizesOf, renewed, capacityOf, roomOf}
 use Rattle.paper.specs.Index.{runOf, empty, openOf}
 use Rattle.paper.specs.Store.{recordsFor, freeAt, freePlace, emptySlot, placeFor, saveJob, keepSlot, saveOf, keepOf, clearOf, sizesAfter}
-use Rattle.paper.proofs.Opening.{empty-facts, full-facts, open-sound}
+use Rattle.paper.proofs.Opening.{empty-facts, full-facts, open-sound, sound-open}
 use Rattle.paper.proofs.Rules.{keeps-lengths}
 use Rattle.paper.proofs.Free.{facts-free, place-free}
 use Rattle.paper.proofs.Begins.{Placed, save-taken, taken-save, keep-taken, taken-keep, keep-slotted, clear-is-taken, taken-is-clear}
@@ -68,11 +68,11 @@ begins =
     record {
       save-job = λ f slot scan about e.
           let t = save-taken f slot scan about e in
-          subst (λ (b : Begun). SaveJob f slot scan about (b .job)) (sym (taken-save f slot scan about t)) (save-job-is f slot scan about (t .opens) (t .placed));
+          subst (λ (b : Begun). SaveJob f slot scan about (b .job)) (sym (taken-save f slot scan about t)) (save-job-is f slot scan about (sound-open (t .may .sound)) (t .placed));
       keep-job = λ f scan about e.
           let t = keep-taken f scan about e in
           subst (λ (b : Begun). SaveJob f (b .job .slot) scan about (b .job) × LowestEmpty f (b .job .slot)) (sym (taken-keep f scan about t))
-          (save-job-is f (keepSlot f) scan about (t .opens) (t .placed), lowest-empty f (t .slotted));
+          (save-job-is f (keepSlot f) scan about (sound-open (t .may .sound)) (t .placed), lowest-empty f (t .slotted));
       clear-job = λ f slot e.
           subst (λ (b : Begun). ClearJob f slot (b .job)) (sym (taken-is-clear f slot (clear-is-taken f slot e)))
           (record { fresh = record { slot-is = refl; size-is = refl; span-is = refl; none-written = refl; begun-on = refl }; clears = refl; no-place = refl; no-about = refl });

@@ -1,5 +1,5 @@
 -- Demand 2, of the entry as the call gives it.
-use Prim.Native.Nat.{ℕ, _+_, _-_, _≤_, _<_}
+use Prim.Native.Nat.{ℕ, _+_, _-_, _%_, _≤_, _<_}
 use mathlib.Core.Path.{_≡_, refl, sym, _∙_, ap, subst}
 use mathlib.Core.Bool.{true, false}
 use mathlib.Core.List.{List, [], _∷_, _++_}
@@ -8,24 +8,25 @@ use native.Mathlib.Omega.{arith}
 use borrow.Author.Tests.{lt-ltb, le-ltb, lt-leb, le-leb, leb-true}
 use lib.Dec.{leb}
 use lib.Ieee.{Float, binary32, binary64, ofBits}
+use lib.IntN.{pos}
 use lib.ListN.{length}
 use Rattle.lent.specs.Checks.{Fired, clear, fires, fired, answer}
 use Rattle.lent.specs.Lists.{all}
-use Rattle.lent.specs.Number.{big, number, bytes, be16, be32, be64, int16}
+use Rattle.lent.specs.Number.{big, number, bytes, be16, be32, be64, int16, widened}
 use Rattle.lent.specs.Part.{part}
 use Rattle.lent.proofs.Lists.{lt-or-ge, not-so, all-true}
 use Rattle.lent.proofs.Checks.{judge-clear}
 use Rattle.lent.proofs.Numbers.{bytes-number, number-two}
-use Rattle.lent.proofs.Parts.{part-part, part-join}
+use Rattle.lent.proofs.Parts.{part-part, part-join, part-none}
 use Rattle.paper.specs.declared.sizes.Sizes.{Sizes}
 use Rattle.paper.specs.declared.sizes.Run.{Run}
 use Rattle.paper.specs.declared.refusal.Refusal.{Refusal}
 use Rattle.paper.specs.declared.answer.Taken.the-variants.{Accepted, Refused}
 use Rattle.paper.specs.declared.entry.Found.{Found}
 use Rattle.paper.specs.Refusals.{kindSays}
-use Rattle.paper.specs.Sizes.{sizesOf, homeOf}
+use Rattle.paper.specs.Sizes.{sizesOf, versionOf, wordAt, homeOf}
 use Rattle.paper.specs.Index.{runOf, Full, Sound}
-use Rattle.paper.specs.Entry.{naturalOf, kindOf, fieldsOf, noEntry}
+use Rattle.paper.specs.Entry.{naturalOf, kindOf, magicOf, positionOf, fieldsOf, noEntry}
 use Rattle.paper.specs.Look.{slotChecks, foundOf}
 use Rattle.paper.specs.Store.{recordsFor, runFrom}
 use Rattle.paper.proofs.Sizing.{home-is, home-in}
@@ -35,7 +36,7 @@ use Rattle.paper.proofs.Begins.{SlotTaken, slot-is-taken}
 use Rattle.paper.proofs.Reading.{slot-clear}
 use Rattle.paper.proofs.Confirming.{Confirms, ended, saved-entry, saved-run}
 use Rattle.demands.specs.Reads.{entryByte}
-use Rattle.demands.specs.Entries.{Bytes, bits16, fieldBytes, KindIs, EntryIs, EntryFields, SavedGives}
+use Rattle.demands.specs.Entries.{Bytes, bits16, middleBytes, fieldBytes, oldBytes, KindIs, EntryIs, EntryFields, SavedGives}
 
 -- ---- the fields, written back
 
@@ -43,6 +44,11 @@ bits-back : (v : ℕ) → v < 65536 → bits16 (int16 v) ≡ v
 unfolding int16
 bits-back v h =
     ⊎-elim (λ (l : v < 32768). rw (lt-ltb v 32768 l) refl) (λ (l : 32768 ≤ v). rw (le-ltb v 32768 l) (omega arith)) (lt-or-ge v 32768)
+
+widened-back : (v : ℕ) → v < 65536 → widened v % 65536 ≡ v
+unfolding widened
+widened-back v h =
+    ⊎-elim (λ (l : v < 32768). rw (lt-ltb v 32768 l) (omega arith)) (λ (l : 32768 ≤ v). rw (le-ltb v 32768 l) (omega arith)) (lt-or-ge v 32768)
 
 module _ (f : List ℕ) (low : Bytes f) (at : ℕ) (fits : at + 62 ≤ length f) where
   -- a number of n bytes from byte k of the entry on
@@ -55,31 +61,62 @@ module _ (f : List ℕ) (low : Bytes f) (at : ℕ) (fits : at + 62 ≤ length f)
       let b = low (at + k + 1) in
       ap (bytes big 2) (bits-back (be16 f (at + k)) (omega (arith, number-two f (at + k)))) ∙ field 2 k e h l
 
-  -- what begins at a and is followed by what begins at b
-  then-part : {xs ys : List ℕ} (a b : ℕ) → xs ≡ part (at + a) (at + b) f → ys ≡ part (at + b) (at + 62) f → a ≤ b → b ≤ 62
-      → xs ++ ys ≡ part (at + a) (at + 62) f
-  then-part {xs} {ys} a b p q h k = rw (p, q) (part-join (at + a) (at + b) (at + 62) f (omega arith) (omega arith) fits)
+  -- what begins at a and is followed by what begins at b, to byte e
+  then-part : {xs ys : List ℕ} (a b e : ℕ) → xs ≡ part (at + a) (at + b) f → ys ≡ part (at + b) (at + e) f → a ≤ b → b ≤ e → e ≤ 62
+      → xs ++ ys ≡ part (at + a) (at + e) f
+  then-part {xs} {ys} a b e p q h k l = rw (p, q) (part-join (at + a) (at + b) (at + e) f (omega arith) (omega arith) (omega arith))
 
-  pub fields-back : fieldBytes (fieldsOf f at) ≡ part at (at + 62) f
-  unfolding fieldBytes fieldsOf
+  -- bytes 8 to 59, which are the same in both forms
+  middle-back : (v e : ℕ) (rest : List ℕ) → 60 ≤ e → e ≤ 62 → rest ≡ part (at + 60) (at + e) f → middleBytes (fieldsOf v f at) rest ≡ part (at + 8) (at + e) f
+  unfolding fieldsOf
+  middle-back v e rest lo hi r =
+      then-part 8 12 e (field 4 8 12 refl (omega arith))
+      (then-part 12 16 e (field 4 12 16 refl (omega arith))
+      (then-part 16 32 e refl
+      (then-part 32 36 e (field 4 32 36 refl (omega arith))
+      (then-part 36 40 e (field 4 36 40 refl (omega arith))
+      (then-part 40 48 e (field 8 40 48 refl (omega arith))
+      (then-part 48 52 e (field 4 48 52 refl (omega arith))
+      (then-part 52 56 e (field 4 52 56 refl (omega arith))
+      (then-part 56 58 e (int 56 58 refl (omega arith))
+      (then-part 58 60 e (int 58 60 refl (omega arith)) r
+      (omega arith) lo hi) (omega arith) (omega arith) hi) (omega arith) (omega arith) hi) (omega arith) (omega arith) hi) (omega arith) (omega arith) hi)
+      (omega arith) (omega arith) hi) (omega arith) (omega arith) hi) (omega arith) (omega arith) hi) (omega arith) (omega arith) hi) (omega arith) (omega arith) hi
+
+  -- the entry begins where it begins
+  from-0 : (e : ℕ) → part (at + 0) (at + e) f ≡ part at (at + e) f
+  from-0 e = ap (λ (x : ℕ). part x (at + e) f) (omega arith)
+
+  pub fields-back : fieldBytes (fieldsOf 1 f at) ≡ part at (at + 62) f
+  unfolding fieldBytes fieldsOf wordAt positionOf
   fields-back =
-      let e : at + 0 ≡ at = omega arith in
-      rw e at
-      (then-part 0 4 (field 4 0 4 refl (omega arith))
-      (then-part 4 8 (field 4 4 8 refl (omega arith))
-      (then-part 8 12 (field 4 8 12 refl (omega arith))
-      (then-part 12 16 (field 4 12 16 refl (omega arith))
-      (then-part 16 32 refl
-      (then-part 32 36 (field 4 32 36 refl (omega arith))
-      (then-part 36 40 (field 4 36 40 refl (omega arith))
-      (then-part 40 48 (field 8 40 48 refl (omega arith))
-      (then-part 48 52 (field 4 48 52 refl (omega arith))
-      (then-part 52 56 (field 4 52 56 refl (omega arith))
-      (then-part 56 58 (int 56 58 refl (omega arith))
-      (then-part 58 60 (int 58 60 refl (omega arith)) (int 60 62 refl (omega arith)) (omega arith) (omega arith))
-      (omega arith) (omega arith)) (omega arith) (omega arith)) (omega arith) (omega arith)) (omega arith) (omega arith)) (omega arith) (omega arith))
-      (omega arith) (omega arith)) (omega arith) (omega arith)) (omega arith) (omega arith)) (omega arith) (omega arith)) (omega arith) (omega arith))
-      (omega arith) (omega arith))
+      then-part 0 4 62 (field 4 0 4 refl (omega arith))
+      (then-part 4 8 62 (field 4 4 8 refl (omega arith)) (middle-back 1 62 _ (omega arith) (omega arith) (int 60 62 refl (omega arith)))
+      (omega arith) (omega arith) (omega arith)) (omega arith) (omega arith) (omega arith)
+      ∙ from-0 62
+
+  -- a 16-bit number that was widened
+  half : (k e : ℕ) → k + 2 ≡ e → e ≤ 62 → bytes big 2 (widened (be16 f (at + k)) % 65536) ≡ part (at + k) (at + e) f
+  half k e h l =
+      let a = low (at + k) in
+      let b = low (at + k + 1) in
+      ap (bytes big 2) (widened-back (be16 f (at + k)) (omega (arith, number-two f (at + k)))) ∙ field 2 k e h l
+
+  pub old-back : oldBytes (fieldsOf 0 f at) ≡ part at (at + 60) f
+  unfolding oldBytes fieldsOf wordAt positionOf magicOf
+  old-back =
+      then-part 0 2 60 (half 0 2 refl (omega arith))
+      (then-part 2 4 60 (half 2 4 refl (omega arith))
+      (then-part 4 6 60 (int 4 6 refl (omega arith))
+      (then-part 6 8 60 (int 6 8 refl (omega arith))
+      (middle-back 0 60 [] (omega arith) (omega arith) (sym (part-none (at + 60) (at + 60) f (omega arith))))
+      (omega arith) (omega arith) (omega arith)) (omega arith) (omega arith) (omega arith)) (omega arith) (omega arith) (omega arith))
+      (omega arith) (omega arith) (omega arith)
+      ∙ from-0 60
+
+pub no-magic : (f : List ℕ) (at : ℕ) → fieldsOf 1 f at .magic ≡ pos 0
+unfolding fieldsOf magicOf int16
+no-magic f at = refl
 
 -- ---- the kind
 
@@ -110,9 +147,9 @@ module _ (n : ℕ) (a b : Float) where
       not-so (λ e. let t = all-true (leb 512 n ∷ leb n 560 ∷ []) e in k (leb-true _ _ (t .0)) (leb-true _ _ (t .1 .0))) in
       rw (p, q) refl
 
-kind-is : (f : List ℕ) (at : ℕ) → KindIs (be16 f (at + 56)) (fieldsOf f at)
+kind-is : (v : ℕ) (f : List ℕ) (at : ℕ) → KindIs (be16 f (at + 56)) (fieldsOf v f at)
 unfolding fieldsOf
-kind-is f at =
+kind-is v f at =
     let m : ℕ = be16 f (at + 56) in
     let a : Float = ofBits binary32 (be32 f (at + 36)) in
     let b : Float = ofBits binary64 (be64 f (at + 40)) in
@@ -131,12 +168,12 @@ unfolding foundOf
 found-taken f s e = go (fired (slotChecks f s)) e
   where
     go : (x : Fired Refusal)
-        → answer {A = Found} (λ (r : Refusal). record { answer = Refused r; entry = noEntry }) (record { answer = Accepted; entry = fieldsOf f (homeOf (sizesOf f) s) }) x .answer ≡ Accepted
+        → answer {A = Found} (λ (r : Refusal). record { answer = Refused r; entry = noEntry }) (record { answer = Accepted; entry = fieldsOf (versionOf f) f (homeOf (sizesOf f) s) }) x .answer ≡ Accepted
         → x ≡ clear
     go clear e = refl
     go (fires r) e = let z : _≡_ {A = ℕ} 0 1 = cc in absurd (omega arith)
 
-pub found-is : (f : List ℕ) (s : ℕ) → fired (slotChecks f s) ≡ clear → foundOf f s ≡ record { answer = Accepted; entry = fieldsOf f (homeOf (sizesOf f) s) }
+pub found-is : (f : List ℕ) (s : ℕ) → fired (slotChecks f s) ≡ clear → foundOf f s ≡ record { answer = Accepted; entry = fieldsOf (versionOf f) f (homeOf (sizesOf f) s) }
 unfolding foundOf
 found-is f s e = judge-clear (λ (r : Refusal). record { answer = Refused r; entry = noEntry }) (slotChecks f s) _ e
 
@@ -156,12 +193,16 @@ module _ (f : List ℕ) (s : ℕ) (c : fired (slotChecks f s) ≡ clear) where
   pub entry-fields-at : Bytes f → EntryIs f (sizesOf f) s (foundOf f s .entry)
   entry-fields-at low =
       let at : ℕ = homeOf (sizesOf f) s in
-      let e : foundOf f s .entry ≡ fieldsOf f at = ap (λ (x : Found). x .entry) (found-is f s c) in
+      let e : foundOf f s .entry ≡ fieldsOf (versionOf f) f at = ap (λ (x : Found). x .entry) (found-is f s c) in
       let h : entryByte (sizesOf f) s ≡ at = home-is (sizesOf f) s in
       subst (EntryIs f (sizesOf f) s) (sym e)
       (record {
-        fields = rw h (fields-back f low at (omega (arith, inside, m₁)));
-        kind = rw h (kind-is f at);
+        fields = λ v.
+            rw h (subst (λ (x : ℕ). fieldBytes (fieldsOf x f at) ≡ part at (at + 62) f) (sym v) (fields-back f low at (omega (arith, inside, m₁))));
+        no-magic = λ v. subst (λ (x : ℕ). fieldsOf x f at .magic ≡ pos 0) (sym v) (no-magic f at);
+        old-fields = λ v.
+            rw h (subst (λ (x : ℕ). oldBytes (fieldsOf x f at) ≡ part at (at + 60) f) (sym v) (old-back f low at (omega (arith, inside, m₁))));
+        kind = rw h (kind-is (versionOf f) f at);
       })
 
 pub entry-fields : EntryFields
@@ -169,13 +210,13 @@ entry-fields f s low e = entry-fields-at f s (found-taken f s e) low
 
 -- ---- after a save
 
-field-first : (f : List ℕ) (at : ℕ) → fieldsOf f at .first ≡ be32 f at
+field-first : (v : ℕ) (f : List ℕ) (at : ℕ) → fieldsOf v f at .first ≡ wordAt v f at 0
 unfolding fieldsOf
-field-first f at = refl
+field-first v f at = refl
 
-field-last : (f : List ℕ) (at : ℕ) → fieldsOf f at .last ≡ be32 f (at + 4)
+field-last : (v : ℕ) (f : List ℕ) (at : ℕ) → fieldsOf v f at .last ≡ wordAt v f at 1
 unfolding fieldsOf
-field-last f at = refl
+field-last v f at = refl
 
 pub saved-gives : SavedGives
 saved-gives f scan j r count low e k54 =
@@ -191,13 +232,14 @@ saved-gives f scan j r count low e k54 =
     let at : ℕ = homeOf z s in
     let long = home-in (S .booted) s (A .low) (A .high) in
     let m = S .booted .ranged .shape .m-low in
-    let g : foundOf f s ≡ record { answer = Accepted; entry = fieldsOf f at } = found-is f s c in
+    let g : foundOf f s ≡ record { answer = Accepted; entry = fieldsOf (versionOf f) f at } = found-is f s c in
+    let v : versionOf f ≡ 1 = A .current in
     record {
       taken = ap (λ (y : Found). y .answer) g;
       about =
-          ap (λ (y : Found). part 8 62 (fieldBytes (y .entry))) g ∙ ap (part 8 62) (fields-back f low at (omega arith))
+          ap (λ (y : Found). part 8 62 (fieldBytes (y .entry))) g ∙ ap (λ (x : ℕ). part 8 62 (fieldBytes (fieldsOf x f at))) v ∙ ap (part 8 62) (fields-back f low at (omega arith))
           ∙ part-part at (at + 62) f 8 62 (omega arith) (omega arith) ∙ sym (part-part at (at + z .m) f 8 62 (omega arith) (omega arith))
           ∙ ap (part 8 62) (saved-entry C (x .is)) ∙ entry-about z (runFrom (j .first) (recordsFor z (length scan))) (j .about) k54;
-      first = ap (λ (y : Found). y .entry .first) g ∙ field-first f at ∙ ap (λ (y : Run). y .first) run;
-      last = ap (λ (y : Found). y .entry .last) g ∙ field-last f at ∙ ap (λ (y : Run). y .last) run;
+      first = ap (λ (y : Found). y .entry .first) g ∙ field-first (versionOf f) f at ∙ ap (λ (y : Run). y .first) run;
+      last = ap (λ (y : Found). y .entry .last) g ∙ field-last (versionOf f) f at ∙ ap (λ (y : Run). y .last) run;
     }

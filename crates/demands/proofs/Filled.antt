@@ -1,4 +1,4 @@
--- An accepted blank opens, and keeps a scan.
+-- An accepted blank opens, and keeps a scan; an old file with a scan is read.
 use Prim.Native.Nat.{ℕ, _+_, _-_, _*_, _/_, _≤_, _<_}
 use mathlib.Core.Path.{_≡_, refl, sym, _∙_, ap, subst}
 use mathlib.Core.Bool.{true}
@@ -8,8 +8,9 @@ use native.Mathlib.Omega.{arith}
 use native.Mathlib.Nat.{zero-add, le-div-iff-mul-le, div-lt-iff-lt-mul, mul-le-mul-right}
 use lib.ListN.{length, getD, List·getD-eq-default}
 use lib.Ieee.{ofBits}
-use Rattle.lent.specs.Number.{number, value, int16}
+use Rattle.lent.specs.Number.{number, value, int16, widened}
 use Rattle.lent.specs.Lists.{table, every, those}
+use Rattle.lent.specs.Least.{least}
 use Rattle.lent.specs.Write.{write, pad}
 use Rattle.lent.proofs.Writes.{length-pad, pad-at, write-in, write-after}
 use Rattle.whole.specs.Number.{exactly, wholeFloat, wholeOf}
@@ -20,11 +21,12 @@ use Rattle.paper.specs.declared.answer.Ruled.the-variants.{Keeps}
 use Rattle.paper.specs.declared.answer.Taken.the-variants.{Accepted}
 use Rattle.paper.specs.declared.job.Begun.{Begun}
 use Rattle.paper.specs.declared.job.Step.the-variants.{Saved}
-use Rattle.paper.specs.Sizes.{sizesOf, bootBytes, capacityOf, roomOf}
-use Rattle.paper.specs.Index.{runOf, slotsOf, openOf, Sound}
+use Rattle.paper.specs.Sizes.{sizesOf, wordAt, counterOf, typeOf, bootBytes, capacityOf, roomOf, shaped, inRange}
+use Rattle.paper.specs.Index.{runOf, empty, inData, badAt, aboveAt, shares, sharer, sharedAt, slotsOf, openOf, Sound, Changeable}
+use Rattle.paper.specs.Entry.{kindOf, magicOf, positionOf, versionOne, fieldsOf}
 use Rattle.paper.specs.Scan.{classesOf, startsOf, rule1, rule2, rule3, rule4, rule5, rule6, rising, headlen, datalen, ruledOf}
-use Rattle.paper.specs.Store.{blankSizes, blankOf, blankFile, recordsFor, freePlace}
-use Rattle.paper.specs.Look.{InIndex}
+use Rattle.paper.specs.Store.{blankSizes, blankOf, blankFile, recordsFor, freePlace, saveOf}
+use Rattle.paper.specs.Look.{foundOf, showOf, readOf, InIndex}
 use Rattle.paper.proofs.Sizing.{head-long}
 use Rattle.paper.proofs.Opening.{sound-open}
 use Rattle.paper.proofs.Encoding.{length-boot}
@@ -32,7 +34,7 @@ use Rattle.paper.proofs.Begins.{SaveTaken, taken-save}
 use Rattle.paper.proofs.Blank.{blank-facts, facts-blank, blank-file, blank-sound, blank-length, first-place}
 use Rattle.demands.specs.History.{save, takes, isAccepted, slotOf, stateAfter, answerAfter}
 use Rattle.demands.specs.Truth.{ReadsBack}
-use Rattle.demands.specs.NotEmpty.{Blanks, BlankOpens, BlankWrites, leastScan, Kept, BlankKeeps}
+use Rattle.demands.specs.NotEmpty.{Blanks, BlankOpens, BlankWrites, leastScan, Kept, BlankKeeps, oldFile, OldReads}
 use Rattle.demands.proofs.Survived.{confirms-each}
 use Rattle.demands.proofs.True.{run-reads}
 
@@ -121,7 +123,7 @@ module _ (f : List ℕ) (n l m : ℕ) (e : blankOf f n l m ≡ Accepted) (room :
   taken =
       let r : sizesOf g ≡ z = S .booted .reads in
       record {
-        opens = sound-open S ∙ ap Opens (sym r);
+        may = subst (λ (y : Sizes). Changeable g y) (sym r) (record { sound = S; current = refl });
         slotted = subst (λ (y : Sizes). InIndex y 1) (sym r) (record { low = omega arith; high = slots });
         placed = record {
           keeps = scan-keeps;
@@ -149,3 +151,19 @@ module _ (f : List ℕ) (n l m : ℕ) (e : blankOf f n l m ≡ Accepted) (room :
 
 pub blank-keeps : BlankKeeps
 blank-keeps f n l m e room about w = keeps f n l m e room about w
+
+-- ---- an old file
+
+pub old-reads : OldReads
+unfolding number value int16 widened table every those least exactly wholeFloat wholeOf ofBits lengthOf isWhole sizeOf wordAt counterOf typeOf shaped inRange empty inData badAt aboveAt shares sharer sharedAt openOf slotsOf kindOf magicOf positionOf versionOne fieldsOf classesOf startsOf rule1 rule2 rule3 rule4 rule5 rule6 rising ruledOf foundOf showOf readOf saveOf leastScan oldFile
+old-reads =
+    record {
+      opens = refl;
+      lists = refl;
+      shows = refl;
+      reads = refl;
+      entry = refl;
+      magic = refl;
+      position = refl;
+      not-saved = refl;
+    }

@@ -11,4 +11,5 @@ pub mod Fields
 pub mod Telling
 pub mod Unchanged
 pub mod Filled
+pub mod Old
 pub mod Single

@@ -1,15 +1,15 @@
 -- Demand 2, of what list, show, read, class and data answer.
 use Prim.Native.Nat.{ℕ, zero, suc, _+_, _-_, _*_, _/_, _≤_, _<_}
 use mathlib.Core.Path.{_≡_, refl, sym, _∙_, ap, subst}
-use mathlib.Core.Bool.{false}
+use mathlib.Core.Bool.{true, false}
 use mathlib.Core.List.{List, [], _∷_}
 use native.Mathlib.Omega.{arith}
 use native.Mathlib.Nat.{le-div-iff-mul-le, div-lt-iff-lt-mul, zero-add}
-use borrow.Author.Tests.{ltb-false}
+use borrow.Author.Tests.{ltb-false, not-false}
 use lib.Dec.{ltb}
 use lib.ListN.{length, take, drop, getD}
 use lib.Seq.{take-take}
-use Rattle.lent.specs.Number.{be32}
+use Rattle.lent.specs.Number.{be16}
 use Rattle.lent.specs.Checks.{Check, check}
 use Rattle.lent.specs.Part.{part}
 use Rattle.lent.specs.Write.{write}
@@ -25,11 +25,13 @@ use Rattle.paper.specs.declared.answer.Ruled.{Ruled}
 use Rattle.paper.specs.declared.answer.Ruled.the-variants.{Keeps, Breaks}
 use Rattle.paper.specs.declared.answer.Span.{Span}
 use Rattle.paper.specs.declared.answer.Span.the-variants.{Part, Refused}
-use Rattle.paper.specs.Sizes.{sizesOf, startOf}
+use Rattle.paper.specs.Sizes.{sizesOf, versionOf, wordAt, homeOf, startOf}
 use Rattle.paper.specs.Index.{runOf, shownOf, openChecks, Lies, Sound}
 use Rattle.paper.specs.Scan.{classesOf, startsOf, headlen, datalen, classAt, classEnd, ruledOf, ofRuled, classOf, dataOf, Rule, Kept}
-use Rattle.paper.specs.Look.{linesOf, listOf, listChecks, listedOf, listedOut, slotChecks, showOf, readIn, readOf}
+use Rattle.paper.specs.Look.{linesOf, listOf, listChecks, listedOf, listedOut, slotChecks, otherScan, readChecks, showOf, readIn, readOf}
+use Rattle.paper.specs.Entry.{versionOne}
 use Rattle.paper.proofs.Sizing.{home-is, less, times}
+use Rattle.paper.proofs.Forms.{one-facts}
 use Rattle.paper.proofs.Opening.{open-sound, full-holds, lies-end}
 use Rattle.paper.proofs.Rules.{kept, keeps-lengths}
 use Rattle.paper.proofs.Reasons.{kept-rule}
@@ -40,10 +42,10 @@ use Rattle.demands.specs.Reads.{firstAt, lastAt, ListLines, Shown, ShowR
 -- by record and place, or by the byte
 module _ (f : List ℕ) (z : Sizes) (s : ℕ) where
   first-is : firstAt f z s ≡ runOf f z s .first
-  first-is = ap (be32 f) (home-is z s)
+  first-is = ap (λ (x : ℕ). wordAt (z .version) f x 0) (home-is z s)
 
   last-is : lastAt f z s ≡ runOf f z s .last
-  last-is = ap (λ (x : ℕ). be32 f (x + 4)) (home-is z s)
+  last-is = ap (λ (x : ℕ). wordAt (z .version) f x 1) (home-is z s)
 
 -- ---- list
 
@@ -168,16 +170,19 @@ read-scan f s from to e =
     let z : Sizes = sizesOf f in
     let a : ℕ = startOf z (runOf f z s .first) in
     let b : ℕ = runOf f z s .last * z .l in
-    let p = judge-passed Refused (slotChecks f s) (readIn a (ruledOf (shownOf f z s) false)) (Part from to) (λ r. never r from to) e in
+    let p = judge-passed Refused (readChecks f s) (readIn a (ruledOf (shownOf f z s) false)) (Part from to) (λ r. never r from to) e in
     let q = ruled-part (shownOf f z s) (λ head rest. Part a (a + (head + rest))) from to (p .1) in
     let x : a ≡ from = from-same _ _ from to (q .1) in
     let y : a + (headlen (shownOf f z s) + datalen (shownOf f z s)) ≡ to = to-same _ _ from to (q .1) in
-    let h : Shown f z s a b = shown-is f s (slot-is-taken f s (p .0)) in
+    let c = append-clear (slotChecks f s) (otherScan f s ∷ []) (p .0) in
+    let h : Shown f z s a b = shown-is f s (slot-is-taken f s (c .0)) in
+    let m : versionOne (versionOf f) f (homeOf z s) ≡ true = not-false _ (clear-all (otherScan f s ∷ []) (c .1) .0) in
     subst (Read f s from) y
     (subst (λ (c : ℕ). Read f s c (a + (headlen (shownOf f z s) + datalen (shownOf f z s)))) x
     (record {
       end = b;
-      shows = judge-clear Refused (slotChecks f s) (Part a b) (p .0);
+      shows = judge-clear Refused (slotChecks f s) (Part a b) (c .0);
+      version-one = λ v. ap (λ (x : ℕ). be16 f (x + 4)) (home-is z s) ∙ one-facts (versionOf f) f (homeOf z s) m v;
       keeps = kept-rule (kept (q .0));
       so-many = refl;
       within = omega (arith, keeps-lengths (q .0) .within, length-part a b f (h .within), h .some);

@@ -14,7 +14,7 @@ use Rattle.lent.proofs.Leasts.{lowest-least, none-least}
 use Rattle.lent.proofs.Checks.{judge-append, judge-fires}
 use Rattle.paper.specs.declared.sizes.Sizes.{Sizes}
 use Rattle.paper.specs.declared.refusal.Refusal.{Refusal}
-use Rattle.paper.specs.declared.refusal.Refusal.the-variants.{NoSuchSlot, NoEmptySlot, BadScan, Disagrees, Differs}
+use Rattle.paper.specs.declared.refusal.Refusal.the-variants.{NoSuchSlot, NoEmptySlot, BadScan, Disagrees, Differs, NotVersionOne}
 use Rattle.paper.specs.declared.answer.Opened.{Opened}
 use Rattle.paper.specs.declared.answer.Opened.the-variants as opened
 use Rattle.paper.specs.declared.answer.Listed.the-variants as listed
@@ -29,12 +29,13 @@ use Rattle.paper.specs.declared.job.Begun.{Begun}
 use Rattle.paper.specs.declared.job.Step.{Step}
 use Rattle.paper.specs.declared.job.Step.the-variants as step
 use Rattle.paper.specs.Refusals.{openedSays, listedSays, spanSays, takenSays, stepSays}
-use Rattle.paper.specs.Sizes.{sizesOf, capacityOf, startOf, roomOf}
+use Rattle.paper.specs.Sizes.{sizesOf, versionOf, capacityOf, homeOf, startOf, roomOf}
 use Rattle.paper.specs.Index.{runOf, empty, shownOf, openChecks, openOf, Lies, Sound}
 use Rattle.paper.specs.Scan.{startsOf, classesOf, headlen, datalen, classIn, ruledOf, ofRuled, classOf, dataOf, Rule}
-use Rattle.paper.specs.Look.{listOf, listedOf, noSlot, slotChecks, foundOf, showOf, readOf, InIndex}
+use Rattle.paper.specs.Look.{listOf, listedOf, noSlot, heldChecks, slotChecks, otherScan, readChecks, foundOf, showOf, readOf, InIndex}
 use Rattle.paper.specs.Store.{blankSizes, blankTests, blankChecks, blankOf, recordsFor, freeAt, freePlace, emptySlot, refused, placeFor, keepSlot, reasonOf, scanChecks, saveOf, keepOf, clearOf, countOf, writesOf}
 use Rattle.paper.specs.Step.{agrees, hasLeft, wroteOf, stands, confirmed, confirmOf, stepAnswer, Agreeing, Standing}
+use Rattle.paper.proofs.Forms.{one-facts, facts-one}
 use Rattle.paper.proofs.Opening.{shaped-facts, facts-shaped, empty-facts, facts-empty, full-facts, facts-full, then-refused, then-opens, open-reads}
 use Rattle.paper.proofs.Rules.{keeps-lengths}
 use Rattle.paper.proofs.Reasons.{ruleOf, rule-facts, facts-rule, reason-least, some-reason}
@@ -42,19 +43,26 @@ use Rattle.paper.proofs.Writes.{length-writes, some-record}
 use Rattle.paper.proofs.Agreement.{agreed, agreeing, stood, standing}
 use Rattle.paper.proofs.Free.{FreeAt, facts-free, place-free, free-nobody}
 use Rattle.paper.proofs.Begins.{slot-facts, facts-slot}
-use Rattle.demands.specs.Causes.{Row, end, asks, only-if, OpenRow, SlotRow, RuleRow, ReadRow, FreeRun, Place, ScanRow, Vacant, StepRow, BlankRow}
+use Rattle.demands.specs.Causes.{Row, end, asks, only-if, OpenRow, HeldRow, SlotRow, RuleRow, VersionOne, ReadRow, FreeRun, Place, ScanRow, Vacant, StepRow, BlankRow}
 use Rattle.demands.specs.Truth.{Told, RefusedExactly}
-use Rattle.demands.proofs.Ordered.{Meets, one, each, nothing, asked-so, not-asked, told, open-row}
+use Rattle.demands.proofs.Ordered.{Meets, one, each, nothing, asked-so, not-asked, told, open-row, change-row}
 
 -- ---- 9, 10, 11, 13
 
 slot-asks : (z : Sizes) (s : ℕ) {cs : List (Check Refusal)} {row : Row} → Meets cs row → Meets (noSlot z s ∷ cs) (asks (InIndex z s) NoSuchSlot row)
 slot-asks z s k = one (λ t h. true≢false t (facts-slot z s h)) (slot-facts z s) (λ h. k)
 
+held-row : (f : List ℕ) (s : ℕ) {ds : List (Check Refusal)} {row : Row} → Meets ds row → Meets (heldChecks f s ++ ds) (HeldRow f s row)
+held-row f s k =
+    slot-asks (sizesOf f) s (one (λ t h. true≢false t (facts-full (runOf f (sizesOf f) s) h)) (full-facts (runOf f (sizesOf f) s)) (λ h. k))
+
 slot-row : (f : List ℕ) (s : ℕ) {ds : List (Check Refusal)} {row : Row} → Meets ds row → Meets (slotChecks f s ++ ds) (SlotRow f s row)
-slot-row f s k =
-    open-row f
-    (λ S. slot-asks (sizesOf f) s (one (λ t h. true≢false t (facts-full (runOf f (sizesOf f) s) h)) (full-facts (runOf f (sizesOf f) s)) (λ h. k)))
+slot-row f s k = open-row f (λ S. held-row f s k)
+
+-- 18
+one-asks : (f : List ℕ) (s : ℕ) {cs : List (Check Refusal)} {row : Row} → Meets cs row → Meets (otherScan f s ∷ cs) (asks (VersionOne f s) NotVersionOne row)
+one-asks f s k =
+    one (λ t h. true≢false (facts-one (versionOf f) f (homeOf (sizesOf f) s) h) (not-true _ t)) (λ t. one-facts (versionOf f) f (homeOf (sizesOf f) s) (not-false _ t)) (λ h. k)
 
 -- the check of a scan's rules
 abbrev ruleCheck : List ℕ → Bool → Check Refusal
@@ -164,7 +172,7 @@ class-says : (s : List ℕ) (number head : ℕ) → spanSays (classIn (startsOf 
 unfolding classIn
 class-says s number head = part-says (all (leb 1 number ∷ leb number (classesOf s) ∷ [])) _ _ _ _
 
--- a read: the slot's checks, then the rules
+-- a read: the slot's checks and 18, then the rules
 read-told : (f : List ℕ) (s : ℕ) → Told (spanSays (readOf f s)) (ReadRow f s)
 unfolding readOf
 read-told f s =
@@ -172,9 +180,9 @@ read-told f s =
     let shown : List ℕ = shownOf f (sizesOf f) s in
     let k : ℕ → ℕ → Span = λ head rest. span.Part from (from + (head + rest)) in
     subst (λ (x : Span). Told (spanSays x) (ReadRow f s))
-    (judge-append span.Refused (slotChecks f s) (ruleCheck shown false ∷ []) (k (headlen shown) (datalen shown))
-    ∙ ap (judge span.Refused (slotChecks f s)) (sym (ruled-judge shown false k)))
-    (told spanSays span.Refused (k (headlen shown) (datalen shown)) (λ r. refl) refl (slot-row f s (rule-row shown false (λ h. nothing))))
+    (judge-append span.Refused (readChecks f s) (ruleCheck shown false ∷ []) (k (headlen shown) (datalen shown))
+    ∙ ap (judge span.Refused (readChecks f s)) (sym (ruled-judge shown false k)))
+    (told spanSays span.Refused (k (headlen shown) (datalen shown)) (λ r. refl) refl (slot-row f s (one-asks f s (rule-row shown false (λ h. nothing)))))
 
 -- ---- a step
 
@@ -255,10 +263,10 @@ refused-exactly =
       class = λ s n. ruled-told s _ (λ a b. class-says s n a);
       rest = λ s. ruled-told s _ (λ a b. refl);
       save-scan = λ f slot scan about.
-          told (λ (b : Begun). takenSays (b .answer)) refused _ (λ r. refl) refl (open-row f (λ S. slot-asks (sizesOf f) slot (scan-row f scan S)));
+          told (λ (b : Begun). takenSays (b .answer)) refused _ (λ r. refl) refl (change-row f (λ S. slot-asks (sizesOf f) slot (scan-row f scan S)));
       keep-scan = λ f scan about.
-          told (λ (b : Begun). takenSays (b .answer)) refused _ (λ r. refl) refl (open-row f (λ S. keep-asks f (scan-row f scan S)));
-      clear-slot = λ f slot. told (λ (b : Begun). takenSays (b .answer)) refused _ (λ r. refl) refl (slot-row f slot nothing);
+          told (λ (b : Begun). takenSays (b .answer)) refused _ (λ r. refl) refl (change-row f (λ S. keep-asks f (scan-row f scan S)));
+      clear-slot = λ f slot. told (λ (b : Begun). takenSays (b .answer)) refused _ (λ r. refl) refl (change-row f (λ S. held-row f slot nothing));
       step-job = λ f scan j. step-told f scan j (agrees f scan j) (hasLeft (sizesOf f) scan j) refl refl;
       blank = λ f n l m. told takenSays taken.Refused taken.Accepted (λ r. refl) refl (blank-row f n l m);
     }

@@ -7,15 +7,17 @@ use native.Mathlib.Omega.{arith}
 use borrow.Author.Tests.{ne-eqb}
 use lib.ListN.{length, drop, getD}
 use lib.Seq.{take-take}
-use Rattle.lent.specs.Checks.{Check, Fired, clear, fires, fired, answer, judge}
+use Rattle.lent.specs.Checks.{Check, check, Fired, clear, fires, fired, answer, judge}
 use Rattle.lent.specs.Lists.{all}
 use Rattle.lent.specs.Number.{big}
 use Rattle.lent.specs.Part.{part, Alike}
 use Rattle.lent.proofs.Numbers.{number-same}
-use Rattle.lent.proofs.Parts.{length-part-min, part-at, part-part}
+use Rattle.lent.proofs.Parts.{length-part-min, part-at, part-part, alike-within}
+use Rattle.lent.proofs.Checks.{judge-append}
 use Rattle.paper.specs.declared.sizes.Sizes.{Sizes}
 use Rattle.paper.specs.declared.sizes.Run.{Run}
 use Rattle.paper.specs.declared.refusal.Refusal.{Refusal}
+use Rattle.paper.specs.declared.refusal.Refusal.the-variants.{NotVersionOne}
 use Rattle.paper.specs.declared.answer.Opened.the-variants.{Opens}
 use Rattle.paper.specs.declared.answer.Ruled.{Ruled}
 use Rattle.paper.specs.declared.answer.Ruled.the-variants.{Keeps, Breaks}
@@ -24,12 +26,13 @@ use Rattle.paper.specs.declared.answer.Span.the-variants as span
 use Rattle.paper.specs.declared.answer.Taken.the-variants as taken
 use Rattle.paper.specs.Sizes.{sizesOf, renewed, homeOf, startOf}
 use Rattle.paper.specs.Index.{runOf, shownOf, entryAt, openOf, Sound}
-use Rattle.paper.specs.Entry.{fieldsOf, noEntry}
+use Rattle.paper.specs.Entry.{fieldsOf, versionOne, noEntry}
 use Rattle.paper.specs.Scan.{ruledOf, partOf}
 use Rattle.paper.specs.Look.{slotTests, noSlot, noScan, slotChecks, foundOf, recordsSpan, showOf, readIn, readOf, InIndex}
 use Rattle.paper.proofs.Sizing.{home-in}
 use Rattle.paper.proofs.Opening.{then-opens, open-reads, open-sound, sound-open}
-use Rattle.paper.proofs.Encoding.{statedBy, entry-run}
+use Rattle.paper.proofs.Forms.{word-same, magic-same, position-same, one-same}
+use Rattle.paper.proofs.Frame as frame
 use Rattle.paper.proofs.Rules.{keeps-lengths}
 use Rattle.paper.proofs.Begins.{slot-facts}
 use Rattle.demands.specs.History.{slotOf, run, reached, Held, heldAt, Holding, change, Done, after, holds, Spares}
@@ -81,9 +84,6 @@ module _ (f g : List ℕ) (z : Sizes) (s : ℕ) (low : 64 ≤ z .m) (fits-f : ho
   abbrev at : ℕ
   at = homeOf z s
 
-  run-same : runOf g z s ≡ runOf f z s
-  run-same = sym (entry-run g z s (omega arith)) ∙ ap statedBy same ∙ entry-run f z s (omega arith)
-
   alike : Alike f g at (at + z .m)
   alike i lo hi =
       let e : at + (i - at) ≡ i = omega arith in
@@ -95,12 +95,18 @@ module _ (f g : List ℕ) (z : Sizes) (s : ℕ) (low : 64 ≤ z .m) (fits-f : ho
   source-same =
       sym (part-part at (at + z .m) g 16 32 (omega arith) fits-g) ∙ ap (part 16 32) same ∙ part-part at (at + z .m) f 16 32 (omega arith) fits-f
 
-  fields-same : fieldsOf g (homeOf z s) ≡ fieldsOf f (homeOf z s)
+  run-same : runOf g z s ≡ runOf f z s
+  run-same = frame.run-same f g z s (alike-within f g (omega arith) (omega arith) alike)
+
+  is-one : versionOne (z .version) g (homeOf z s) ≡ versionOne (z .version) f (homeOf z s)
+  is-one = one-same f g at (at + z .m) alike (z .version) at (omega arith) (omega arith)
+
+  fields-same : (v : ℕ) → fieldsOf v g (homeOf z s) ≡ fieldsOf v f (homeOf z s)
   unfolding fieldsOf
-  fields-same =
+  fields-same v =
       rw (
-        number-same big 4 f g at (at + z .m) at alike (omega arith) (omega arith),
-        number-same big 4 f g at (at + z .m) (at + 4) alike (omega arith) (omega arith),
+        word-same f g at (at + z .m) alike v at 0 (omega arith) (omega arith),
+        word-same f g at (at + z .m) alike v at 1 (omega arith) (omega arith),
         number-same big 4 f g at (at + z .m) (at + 8) alike (omega arith) (omega arith),
         number-same big 4 f g at (at + z .m) (at + 12) alike (omega arith) (omega arith),
         source-same,
@@ -111,7 +117,8 @@ module _ (f g : List ℕ) (z : Sizes) (s : ℕ) (low : 64 ≤ z .m) (fits-f : ho
         number-same big 4 f g at (at + z .m) (at + 52) alike (omega arith) (omega arith),
         number-same big 2 f g at (at + z .m) (at + 56) alike (omega arith) (omega arith),
         number-same big 2 f g at (at + z .m) (at + 58) alike (omega arith) (omega arith),
-        number-same big 2 f g at (at + z .m) (at + 60) alike (omega arith) (omega arith),
+        position-same f g at (at + z .m) alike v at (omega arith) (omega arith),
+        magic-same f g at (at + z .m) alike v at (omega arith) (omega arith),
       ) refl
 
 -- ---- two files that open, whose slot s holds the same
@@ -139,38 +146,62 @@ module _ (f g : List ℕ) (z : Sizes) (d u c : ℕ) (F : Sound f z) (G : Sound g
   abbrev shows-of : List ℕ → Sizes → Span
   shows-of h x = recordsSpan x (runOf h x s)
 
+  -- 18, then the rules
+  abbrev other-in : List ℕ → Sizes → List (Check Refusal)
+  other-in h x = check (not (versionOne (x .version) h (homeOf x s))) NotVersionOne ∷ []
+
+  abbrev scan-in : List ℕ → Sizes → Span
+  scan-in h x = readIn (startOf x (runOf h x s .first)) (ruledOf (shownOf h x s) false)
+
   abbrev reads-of : List ℕ → Sizes → Span
-  reads-of h x = readIn (startOf x (runOf h x s .first)) (ruledOf (shownOf h x s) false)
+  reads-of h x = judge span.Refused (other-in h x) (scan-in h x)
+
+  read-is : (h : List ℕ) → readOf h s ≡ judge span.Refused (slotChecks h s) (reads-of h (sizesOf h))
+  unfolding readOf
+  read-is h = judge-append span.Refused (slotChecks h s) (other-in h (sizesOf h)) (scan-in h (sizesOf h))
+
+  others : InIndex z s → other-in g z ≡ other-in f z
+  others i =
+      ap (λ (t : Bool). check (not t) NotVersionOne ∷ [])
+      (is-one f g z s (F .booted .ranged .shape .m-low) (home-in (F .booted) s (i .low) (i .high)) (home-in (G .booted) s (i .low) (i .high)) (ap (λ (x : Held). x .entry) (held i)))
 
   still-so : StillSo f g s
-  unfolding foundOf showOf readOf
+  unfolding foundOf showOf
   still-so =
       record {
         entry =
-            both (λ r. record { answer = taken.Refused r; entry = noEntry }) (λ x. record { answer = taken.Accepted; entry = fieldsOf g (homeOf x s) })
-            (λ x. record { answer = taken.Accepted; entry = fieldsOf f (homeOf x s) })
+            both (λ r. record { answer = taken.Refused r; entry = noEntry }) (λ x. record { answer = taken.Accepted; entry = fieldsOf (x .version) g (homeOf x s) })
+            (λ x. record { answer = taken.Accepted; entry = fieldsOf (x .version) f (homeOf x s) })
             (λ i.
             ap (λ e. record { answer = taken.Accepted; entry = e })
             (fields-same f g z s (F .booted .ranged .shape .m-low) (home-in (F .booted) s (i .low) (i .high)) (home-in (G .booted) s (i .low) (i .high))
-            (ap (λ (x : Held). x .entry) (held i))));
+            (ap (λ (x : Held). x .entry) (held i)) (z .version)));
         show = both span.Refused (shows-of g) (shows-of f) (λ i. ap (recordsSpan z) (runs i));
         shows =
             part-judge g (slotChecks g s) (shows-of g (sizesOf g))
             ∙ both (λ r. []) (λ x. partOf g (shows-of g x)) (λ x. partOf f (shows-of f x)) shown
             ∙ sym (part-judge f (slotChecks f s) (shows-of f (sizesOf f)));
         read =
-            both span.Refused (reads-of g) (reads-of f)
+            read-is g
+            ∙ both span.Refused (reads-of g) (reads-of f)
             (λ i.
-            ap (λ (r : Run). readIn (startOf z (r .first)) (ruledOf (shownOf g z s) false)) (runs i)
-            ∙ ap (λ (b : List ℕ). readIn (startOf z (runOf f z s .first)) (ruledOf b false)) (shown i));
+            ap (λ (cs : List (Check Refusal)). judge span.Refused cs (scan-in g z)) (others i)
+            ∙ ap (judge span.Refused (other-in f z))
+            (ap (λ (r : Run). readIn (startOf z (r .first)) (ruledOf (shownOf g z s) false)) (runs i)
+            ∙ ap (λ (b : List ℕ). readIn (startOf z (runOf f z s .first)) (ruledOf b false)) (shown i)))
+            ∙ sym (read-is f);
         reads =
-            part-judge g (slotChecks g s) (reads-of g (sizesOf g))
+            ap (partOf g) (read-is g) ∙ part-judge g (slotChecks g s) (reads-of g (sizesOf g))
             ∙ both (λ r. []) (λ x. partOf g (reads-of g x)) (λ x. partOf f (reads-of f x))
             (λ i.
-            read-within g (startOf z (runOf g z s .first)) (runOf g z s .last * z .l)
+            part-judge g (other-in g z) (scan-in g z)
+            ∙ ap (λ (cs : List (Check Refusal)). judge (λ (r : Refusal). []) cs (partOf g (scan-in g z))) (others i)
+            ∙ ap (judge (λ (r : Refusal). []) (other-in f z))
+            (read-within g (startOf z (runOf g z s .first)) (runOf g z s .last * z .l)
             ∙ ap (λ (b : List ℕ). partOf b (readIn 0 (ruledOf b false))) (shown i)
             ∙ sym (read-within f (startOf z (runOf f z s .first)) (runOf f z s .last * z .l)))
-            ∙ sym (part-judge f (slotChecks f s) (reads-of f (sizesOf f)));
+            ∙ sym (part-judge f (other-in f z) (scan-in f z)))
+            ∙ sym (ap (partOf f) (read-is f) ∙ part-judge f (slotChecks f s) (reads-of f (sizesOf f)));
       }
 
 -- ---- after a history

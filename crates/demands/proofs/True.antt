@@ -75,9 +75,9 @@ cleared-empty f scan j r count e =
 
 -- ---- what is shown is read
 
-shown-reads : {f : List ℕ} {slot first : ℕ} {scan about : List ℕ} (head rest : ℕ) → Shows f slot first scan about → ruledOf scan true ≡ Keeps head rest
+shown-reads : {f : List ℕ} {slot first : ℕ} {scan about : List ℕ} (head rest : ℕ) (x : Shows f slot first scan about) → x .z .version ≡ 1 → ruledOf scan true ≡ Keeps head rest
     → length about ≡ 54 → ReadsBack f slot scan about
-shown-reads {f} {slot} {first} {scan} {about} head rest x k l =
+shown-reads {f} {slot} {first} {scan} {about} head rest x v k l =
     let z : Sizes = x .z in
     let S : Sound f z = open-sound (x .opens) in
     let h = slots-holds z (runOf f z) slot (at-listed f z (x .opens) slot (x .lists)) in
@@ -85,12 +85,13 @@ shown-reads {f} {slot} {first} {scan} {about} head rest x k l =
     record {
       z = z;
       opens = x .opens;
-      reads = read-back S slot i (h .full) (recordsFor z (length scan) * z .l) scan (x .shows) k;
+      reads = read-back S slot i (h .full) v (recordsFor z (length scan) * z .l) scan (x .shows) k;
       entry = ap (part 8 62) (x .entry) ∙ entry-about z (runFrom first (recordsFor z (length scan))) about l;
     }
 
 pub saved-reads : SavedReads
-saved-reads f scan j r count head rest e k l = shown-reads head rest (saved-shows f scan j r count e) k l
+unfolding saved-shows
+saved-reads f scan j r count head rest e k l = shown-reads head rest (saved-shows f scan j r count e) (ended f scan j true r count e .facts .agreeing .current) k l
 
 -- ---- a run to confirmation
 

@@ -10,7 +10,7 @@ use lib.ListN.{length}
 use Rattle.lent.specs.Checks.{Check, check, Fired, clear, fires, fired, answer, judge}
 use Rattle.lent.proofs.Checks.{judge-fires, judge-refused}
 use Rattle.paper.specs.declared.refusal.Refusal.{Refusal}
-use Rattle.paper.specs.declared.refusal.Refusal.the-variants.{TooShort, OldForm, UnknownForm, OutOfRange, PastEnd, BadEntry, AboveUse, SharedRecord, NoSuchSlot, EmptySlot, BadScan, NoEmptySlot, NoRoom, Disagrees, Differs, BadBlank, TooSmall}
+use Rattle.paper.specs.declared.refusal.Refusal.the-variants.{TooShort, OldForm, UnknownForm, OutOfRange, PastEnd, BadEntry, AboveUse, SharedRecord, NoSuchSlot, EmptySlot, BadScan, NoEmptySlot, NoRoom, Disagrees, Differs, BadBlank, TooSmall, NotVersionOne}
 use Rattle.paper.specs.declared.answer.Listed.the-variants as listed
 use Rattle.paper.specs.declared.answer.Taken.{Taken}
 use Rattle.paper.specs.declared.answer.Taken.the-variants as taken
@@ -20,10 +20,10 @@ use Rattle.paper.specs.declared.job.Begun.{Begun}
 use Rattle.paper.specs.declared.job.Step.the-variants as step
 use Rattle.paper.specs.Refusals.{numberOf}
 use Rattle.paper.specs.Sizes.{sizesOf}
-use Rattle.paper.specs.Index.{openChecks, openOf}
+use Rattle.paper.specs.Index.{changeChecks, openOf}
 use Rattle.paper.specs.Entry.{noEntry}
 use Rattle.paper.specs.Scan.{partOf}
-use Rattle.paper.specs.Look.{listOf, listChecks, listedOf, listedOut, noSlot, slotChecks, foundOf}
+use Rattle.paper.specs.Look.{listOf, listChecks, listedOf, listedOut, noSlot, heldChecks, slotChecks, foundOf}
 use Rattle.paper.specs.Store.{blankSizes, blankChecks, blankOf, blankFile, refused, accepted, noJob, saveJob, clearJob, keepSlot, scanChecks, saveOf, keepOf, clearOf, countOf, writesOf}
 use Rattle.paper.specs.Step.{agrees, hasLeft, writeAt, confirmOf, stepFile, stepJob, stepAnswer}
 use Rattle.paper.proofs.Writes.{length-writes}
@@ -77,6 +77,7 @@ zero-entry =
       mode = refl;
       number = refl;
       position = refl;
+      magic = refl;
       kind = refl;
     }
 
@@ -94,7 +95,7 @@ step-kept f scan j r true false p q e =
     omega (arith, ltb-false (j .written) (length (writesOf (sizesOf f) j scan)) q, length-writes (sizesOf f) j scan) in
     (step-past f scan j (sizesOf f) p refl h, job-past f scan j (sizesOf f) p refl h)
 
-numbered : (r : Refusal) → (1 ≤ numberOf r) × (numberOf r ≤ 17)
+numbered : (r : Refusal) → (1 ≤ numberOf r) × (numberOf r ≤ 18)
 numbered TooShort = (omega arith, omega arith)
 numbered OldForm = (omega arith, omega arith)
 numbered UnknownForm = (omega arith, omega arith)
@@ -112,6 +113,7 @@ numbered Disagrees = (omega arith, omega arith)
 numbered Differs = (omega arith, omega arith)
 numbered BadBlank = (omega arith, omega arith)
 numbered TooSmall = (omega arith, omega arith)
+numbered NotVersionOne = (omega arith, omega arith)
 
 pub untouched : Untouched
 unfolding blankOf blankFile listedOf listedOut foundOf saveOf keepOf clearOf stepAnswer
@@ -123,10 +125,10 @@ untouched =
       list = λ f out r e. judge-fires (λ (r : Refusal). out) (listChecks f out) _ r (listed-fires (listChecks f out) (length (listOf f)) r e);
       step-job = λ f scan j r e. step-kept f scan j r (agrees f scan j) (hasLeft (sizesOf f) scan j) refl refl e;
       save-scan = λ f slot scan about r e.
-          begun-none (openChecks f ++ (noSlot (sizesOf f) slot ∷ scanChecks f scan)) (saveJob f slot scan about) r e;
+          begun-none (changeChecks f ++ (noSlot (sizesOf f) slot ∷ scanChecks f scan)) (saveJob f slot scan about) r e;
       keep-scan = λ f scan about r e.
-          begun-none (openChecks f ++ (check (eqb (keepSlot f) 0) NoEmptySlot ∷ scanChecks f scan)) (saveJob f (keepSlot f) scan about) r e;
-      clear-slot = λ f slot r e. begun-none (slotChecks f slot) (clearJob f slot) r e;
+          begun-none (changeChecks f ++ (check (eqb (keepSlot f) 0) NoEmptySlot ∷ scanChecks f scan)) (saveJob f (keepSlot f) scan about) r e;
+      clear-slot = λ f slot r e. begun-none (changeChecks f ++ heldChecks f slot) (clearJob f slot) r e;
       no-job = λ f scan j h. answer-refused f scan j (disagreeing f scan j (λ a. omega (arith, a .booted .long, a .span, h .span)));
       entry = λ f s r e.
           subst (λ (x : Found). ZeroEntry (x .entry))

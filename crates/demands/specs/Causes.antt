@@ -4,12 +4,13 @@ use mathlib.Core.Path.{_≡_}
 use mathlib.Core.Bool.{Bool, true, false}
 use mathlib.Core.List.{List}
 use lib.ListN.{length}
+use Rattle.lent.specs.Number.{be16}
 use Rattle.paper.specs.declared.sizes.Sizes.{Sizes}
 use Rattle.paper.specs.declared.sizes.Run.{Run}
 use Rattle.paper.specs.declared.refusal.Refusal.{Refusal}
-use Rattle.paper.specs.declared.refusal.Refusal.the-variants.{TooShort, OldForm, UnknownForm, OutOfRange, PastEnd, BadEntry, AboveUse, SharedRecord, NoSuchSlot, EmptySlot, BadScan, NoEmptySlot, NoRoom, Disagrees, Differs, BadBlank, TooSmall}
+use Rattle.paper.specs.declared.refusal.Refusal.the-variants.{TooShort, OldForm, UnknownForm, OutOfRange, PastEnd, BadEntry, AboveUse, SharedRecord, NoSuchSlot, EmptySlot, BadScan, NoEmptySlot, NoRoom, Disagrees, Differs, BadBlank, TooSmall, NotVersionOne}
 use Rattle.paper.specs.declared.job.Job.{Job}
-use Rattle.paper.specs.Sizes.{sizesOf, versionOf, capacityOf, roomOf, bytesOf, Ranged}
+use Rattle.paper.specs.Sizes.{sizesOf, versionOf, capacityOf, homeOf, roomOf, bytesOf, Ranged}
 use Rattle.paper.specs.Index.{runOf, Full, shownOf, Lies}
 use Rattle.paper.specs.Scan.{Rule}
 use Rattle.paper.specs.Look.{listOf, InIndex}
@@ -76,18 +77,20 @@ IndexRow z run row =
     (asks-each (λ s. z .u < s → run s .first + run s .last ≡ 0) (capacityOf z) AboveUse
     (asks-each (λ s. Shared run s → ⊥) (z .u) SharedRecord row))
 
-abbrev pub OpenRow : List ℕ → Row → Row
-OpenRow f row =
-    asks (512 ≤ length f) TooShort
-    (asks (versionOf f ≡ 0 → ⊥) OldForm
-    (asks (versionOf f ≡ 1) UnknownForm
+-- 3 to 8, of either form
+abbrev pub WordRow : List ℕ → Row → Row
+WordRow f row =
+    asks (versionOf f ≤ 1) UnknownForm
     (asks (Ranged (sizesOf f)) OutOfRange
     (asks (bytesOf (sizesOf f) ≤ length f) PastEnd
-    (IndexRow (sizesOf f) (runOf f (sizesOf f)) row)))))
+    (IndexRow (sizesOf f) (runOf f (sizesOf f)) row)))
 
--- a file that may be changed
+abbrev pub OpenRow : List ℕ → Row → Row
+OpenRow f row = asks (512 ≤ length f) TooShort (WordRow f row)
+
+-- a file that may be changed: "2 now means a save, keep or clear on an old file and keeps its place"
 abbrev pub ChangeRow : List ℕ → Row → Row
-ChangeRow f row = OpenRow f row
+ChangeRow f row = asks (512 ≤ length f) TooShort (asks (versionOf f ≡ 0 → ⊥) OldForm (WordRow f row))
 
 -- ---- each call: "1 to 8 as numbered, then 9 or 12, 10, 11, 13"
 
@@ -105,8 +108,12 @@ ClearRow f s = ChangeRow f (HeldRow f s end)
 abbrev pub RuleRow : List ℕ → Bool → Row → Row
 RuleRow scan saving row = asks-each (Rule scan saving) 6 BadScan row
 
+-- "18, scan not version 1, stands between 10 and 11": "Magic 2 is a version 1 scan", bytes 4 and 5 of an old entry
+abbrev pub VersionOne : List ℕ → ℕ → Type 0
+VersionOne f s = versionOf f ≡ 0 → be16 f (homeOf (sizesOf f) s + 4) ≡ 2
+
 abbrev pub ReadRow : List ℕ → ℕ → Row
-ReadRow f s = SlotRow f s (RuleRow (shownOf f (sizesOf f) s) false end)
+ReadRow f s = SlotRow f s (asks (VersionOne f s) NotVersionOne (RuleRow (shownOf f (sizesOf f) s) false end))
 
 abbrev pub ListRow : List ℕ → List ℕ → Row
 ListRow f out = OpenRow f (asks (3 * length (listOf f) ≤ length out) TooSmall end)

@@ -1,7 +1,7 @@
 -- Demand 2, of the entry as the call gives it: its fields are the entry's bytes, its kind is what the mode says, and after a save they are those given.
-use Prim.Native.Nat.{ℕ, _+_, _-_, _≤_, _<_}
+use Prim.Native.Nat.{ℕ, _+_, _-_, _%_, _≤_, _<_}
 use mathlib.Core.Path.{_≡_}
-use mathlib.Core.List.{List, _++_}
+use mathlib.Core.List.{List, [], _++_}
 use lib.ListN.{length, getD}
 use lib.IntN.{ℤ, pos, negsuc}
 use lib.Ieee.{binary32, binary64, ofBits}
@@ -28,12 +28,10 @@ abbrev pub bits16 : ℤ → ℕ
 bits16 (pos n) = n
 bits16 (negsuc n) = 65535 - n
 
--- the table's bytes 0 to 61, from the fields, in its order
-unfoldable pub fieldBytes : Entry → List ℕ
-fieldBytes e =
-    bytes big 4 (e .first)
-    ++ (bytes big 4 (e .last)
-    ++ (bytes big 4 (e .horizontal)
+-- the table's bytes 8 to 59, from the fields, in its order; and what follows them
+abbrev pub middleBytes : Entry → List ℕ → List ℕ
+middleBytes e rest =
+    bytes big 4 (e .horizontal)
     ++ (bytes big 4 (e .vertical)
     ++ (e .source
     ++ (bytes big 4 (e .scan)
@@ -41,7 +39,17 @@ fieldBytes e =
     ++ (bytes big 8 (e .field8)
     ++ (bytes big 4 (e .lst)
     ++ (bytes big 4 (e .date)
-    ++ (bytes big 2 (bits16 (e .mode)) ++ (bytes big 2 (bits16 (e .number)) ++ bytes big 2 (bits16 (e .position)))))))))))))
+    ++ (bytes big 2 (bits16 (e .mode)) ++ (bytes big 2 (bits16 (e .number)) ++ rest)))))))))
+
+-- bytes 0 to 61 of the current form
+unfoldable pub fieldBytes : Entry → List ℕ
+fieldBytes e = bytes big 4 (e .first) ++ (bytes big 4 (e .last) ++ middleBytes e (bytes big 2 (bits16 (e .position))))
+
+-- bytes 0 to 59 of the old one: "first record, last record, magic number and position code as 16-bit numbers. Bytes 8 to 59 are as now"
+unfoldable pub oldBytes : Entry → List ℕ
+oldBytes e =
+    bytes big 2 (e .first % 65536)
+    ++ (bytes big 2 (e .last % 65536) ++ (bytes big 2 (bits16 (e .magic)) ++ (bytes big 2 (bits16 (e .position)) ++ middleBytes e [])))
 
 -- what a kind says: its number (0 other, 1 continuum, 2 spectral line), its type code, and the values of bytes 36 to 39 and 40 to 47
 abbrev pub kindAs : Entry → ℕ → ℕ → KindSays
@@ -55,7 +63,9 @@ pub record KindIs (m : ℕ) (e : Entry) : Type 0 where
 
 -- the entry of slot s
 pub record EntryIs (f : List ℕ) (z : Sizes) (s : ℕ) (e : Entry) : Type 0 where
-  pub fields : fieldBytes e ≡ part (entryByte z s) (entryByte z s + 62) f
+  pub fields : z .version ≡ 1 → fieldBytes e ≡ part (entryByte z s) (entryByte z s + 62) f
+  pub no-magic : z .version ≡ 1 → e .magic ≡ pos 0
+  pub old-fields : z .version ≡ 0 → oldBytes e ≡ part (entryByte z s) (entryByte z s + 60) f
   pub kind : KindIs (be16 f (entryByte z s + 56)) e
 
 abbrev pub EntryFields : Type 0

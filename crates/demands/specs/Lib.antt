@@ -8,4 +8,5 @@ pub mod Entries
 pub mod Said
 pub mod Untouched
 pub mod NotEmpty
+pub mod Old
 pub mod OneOutcome

@@ -1,15 +1,19 @@
--- Not empty: there are files that open, and a scan that is accepted, confirmed and read back. A store that refuses everything keeps no promise here.
+-- Not empty: there are files that open, a scan that is accepted, confirmed and read back, and an old file with a scan that is read. A store that refuses
+-- everything keeps no promise here.
 use Prim.Native.Nat.{ℕ, _+_, _*_, _≤_, _<_}
 use mathlib.Core.Path.{_≡_}
-use mathlib.Core.Bool.{true}
-use mathlib.Core.List.{List, [], _∷_}
+use mathlib.Core.Bool.{true, false}
+use mathlib.Core.List.{List, [], _∷_, _++_}
+use lib.IntN.{pos}
 use lib.ListN.{length, getD, replicate}
 use Rattle.paper.specs.declared.answer.Opened.the-variants.{Opens}
+use Rattle.paper.specs.declared.answer.Span.the-variants.{Part}
 use Rattle.paper.specs.declared.answer.Taken.the-variants.{Accepted}
 use Rattle.paper.specs.declared.job.Step.the-variants.{Saved}
 use Rattle.paper.specs.Sizes.{Shaped}
 use Rattle.paper.specs.Index.{openOf}
-use Rattle.paper.specs.Look.{listOf}
+use Rattle.paper.specs.Scan.{partOf}
+use Rattle.paper.specs.Look.{listOf, foundOf, showOf, readOf}
 use Rattle.paper.specs.Store.{blankSizes, blankOf, blankFile}
 use Rattle.demands.specs.History.{save, takes, stateAfter, answerAfter}
 use Rattle.demands.specs.Truth.{ReadsBack}
@@ -22,7 +26,7 @@ Blanks = (f : List ℕ) (n l m : ℕ) → Shaped (blankSizes n l m) → n * l �
 abbrev pub BlankOpens : Type 0
 BlankOpens =
     (f : List ℕ) (n l m : ℕ) → blankOf f n l m ≡ Accepted
-    → (openOf (blankFile f n l m) ≡ Opens (record { n = n; d = 0; l = l; m = m; u = 0; counter = 0; kind = 0 })) × (listOf (blankFile f n l m) ≡ [])
+    → (openOf (blankFile f n l m) ≡ Opens (record { n = n; d = 0; l = l; m = m; u = 0; counter = 0; kind = 0; version = 1 })) × (listOf (blankFile f n l m) ≡ [])
 
 -- "Blank writes N records, .. zeros after word 8, and touches nothing beyond"
 pub record Blanked (f g : List ℕ) (n l : ℕ) : Type 0 where
@@ -49,3 +53,22 @@ abbrev pub BlankKeeps : Type 0
 BlankKeeps =
     (f : List ℕ) (n l m : ℕ) → blankOf f n l m ≡ Accepted → (n + 1) * l ≤ length f → (about : List ℕ) → length about ≡ 54
     → Kept (blankFile f n l m) about
+
+-- ---- an old file
+
+-- N 2, D 1, L 512, M 64, U 1, counter 7; in slot 1, of magic number 2 and position code 9, that scan in record 3
+unfoldable pub oldFile : List ℕ
+oldFile =
+    (0 ∷ 2 ∷ 0 ∷ 1 ∷ 2 ∷ 0 ∷ 0 ∷ 64 ∷ 0 ∷ 1 ∷ 0 ∷ 7 ∷ replicate 500 0)
+    ++ ((0 ∷ 3 ∷ 0 ∷ 3 ∷ 0 ∷ 2 ∷ 0 ∷ 9 ∷ replicate 504 0) ++ (leastScan ++ replicate 256 0))
+
+-- It opens, lists and reads, by computation, and no change is begun on it.
+pub record OldReads : Type 0 where
+  pub opens : openOf oldFile ≡ Opens (record { n = 2; d = 1; l = 512; m = 64; u = 1; counter = 7; kind = 0; version = 0 })
+  pub lists : listOf oldFile ≡ 1 ∷ []
+  pub shows : showOf oldFile 1 ≡ Part 1024 1536
+  pub reads : partOf oldFile (readOf oldFile 1) ≡ leastScan
+  pub entry : foundOf oldFile 1 .answer ≡ Accepted
+  pub magic : foundOf oldFile 1 .entry .magic ≡ pos 2
+  pub position : foundOf oldFile 1 .entry .position ≡ pos 9
+  pub not-saved : takes oldFile (save 2 leastScan (replicate 54 0)) ≡ false

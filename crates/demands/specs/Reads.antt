@@ -4,12 +4,12 @@ use mathlib.Core.Path.{_≡_}
 use mathlib.Core.Bool.{false}
 use mathlib.Core.List.{List}
 use lib.ListN.{length, getD}
-use Rattle.lent.specs.Number.{be16, be32, int16}
+use Rattle.lent.specs.Number.{be16, int16}
 use Rattle.lent.specs.Part.{part}
 use Rattle.paper.specs.declared.sizes.Sizes.{Sizes}
 use Rattle.paper.specs.declared.answer.Listed.the-variants.{Scans}
 use Rattle.paper.specs.declared.answer.Span.the-variants.{Part}
-use Rattle.paper.specs.Sizes.{sizesOf, recordOf, placeOf}
+use Rattle.paper.specs.Sizes.{sizesOf, versionOf, wordAt, recordOf, placeOf}
 use Rattle.paper.specs.Entry.{naturalOf}
 use Rattle.paper.specs.Scan.{classesOf, headlen, datalen, classOf, dataOf, Rule}
 use Rattle.paper.specs.Look.{listOf, listedOf, listedOut, showOf, readOf}
@@ -18,12 +18,12 @@ use Rattle.paper.specs.Look.{listOf, listedOf, listedOut, showOf, readOf}
 abbrev pub entryByte : Sizes → ℕ → ℕ
 entryByte z s = (recordOf z s - 1) * z .l + placeOf z s
 
--- bytes 0-3 and 4-7 of slot s's entry: "first record, last record"
+-- the first two numbers of slot s's entry, of 32 bits each or, in the old form, 16: "first record, last record"
 abbrev pub firstAt : List ℕ → Sizes → ℕ → ℕ
-firstAt f z s = be32 f (entryByte z s)
+firstAt f z s = wordAt (z .version) f (entryByte z s) 0
 
 abbrev pub lastAt : List ℕ → Sizes → ℕ → ℕ
-lastAt f z s = be32 f (entryByte z s + 4)
+lastAt f z s = wordAt (z .version) f (entryByte z s) 1
 
 -- ---- list
 
@@ -57,6 +57,8 @@ ShowRecords = (f : List ℕ) (s from to : ℕ) → showOf f s ≡ Part from to �
 pub record Read (f : List ℕ) (s from to : ℕ) : Type 0 where
   pub end : ℕ
   pub shows : showOf f s ≡ Part from end
+  -- "Magic 2 is a version 1 scan; any other is listed and shown, but not read"
+  pub version-one : versionOf f ≡ 0 → be16 f (entryByte (sizesOf f) s + 4) ≡ 2
   pub keeps : (n : ℕ) → Rule (part from end f) false n
   pub so-many : to ≡ from + (headlen (part from end f) + datalen (part from end f))
   pub within : to ≤ end

@@ -46,6 +46,7 @@ pub record ZeroEntry (e : Entry) : Type 0 where
   pub mode : e .mode ≡ pos 0
   pub number : e .number ≡ pos 0
   pub position : e .position ≡ pos 0
+  pub magic : e .magic ≡ pos 0
   pub kind : kindSays (e .kind) ≡ record { number = 0; code = 0; single = ofBits binary32 0; double = ofBits binary64 0 }
 
 -- Three calls write to what is lent: blank and step to the file, list to what is lent for the list. The others only answer.
@@ -69,4 +70,4 @@ pub record Untouched : Type 0 where
   pub class : (s : List ℕ) (n : ℕ) (r : Refusal) → classOf s n ≡ span.Refused r → partOf s (classOf s n) ≡ []
   pub rest : (s : List ℕ) (r : Refusal) → dataOf s ≡ span.Refused r → partOf s (dataOf s) ≡ []
   -- "Every refusal returns its number": one of the table's
-  pub numbered : (r : Refusal) → (1 ≤ numberOf r) × (numberOf r ≤ 17)
+  pub numbered : (r : Refusal) → (1 ≤ numberOf r) × (numberOf r ≤ 18)

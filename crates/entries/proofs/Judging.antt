@@ -14,7 +14,7 @@ use Rattle.paper.specs.declared.answer.Opened.the-variants.{Opens, Refused}
 use Rattle.paper.specs.Sizes.{capacityOf}
 use Rattle.paper.specs.Index.{runOf, empty, sharer, badAt, aboveAt, sharedAt, indexOf}
 use Rattle.paper.proofs.Opening.{empty-facts, facts-above}
-use Rattle.entries.specs.Row.{Stated, Bare}
+use Rattle.entries.specs.Row.{Stated, Filled, Bare}
 
 -- slot i + 1, whose run was read: what was found among the smaller slots
 module _ (run : ℕ → Run) (i : ℕ) (a : Run) (e : a ≡ run (i + 1)) where
@@ -39,13 +39,10 @@ module _ (f : List ℕ) (z : Sizes) where
       go s l m (yes h) = a .empty s l h
       go s l m (no h) = b .empty s (omega arith) m
 
-  pub bare-one : (i j : ℕ) (a : Run) → Stated f z j a → j ≡ i + 1 → a .first + a .last ≡ 0 → Bare f z i j
-  bare-one i j a t e h =
-      let g : runOf f z j .first + runOf f z j .last ≡ 0 = subst (λ (r : Run). r .first + r .last ≡ 0) (t .is) h in
-      record { low = omega arith; empty = λ s l m. let q : s ≡ j = omega arith in rw q g }
+  pub bare-one : (i j a : ℕ) → Filled f z j a → j ≡ i + 1 → a ≡ 0 → Bare f z i j
+  bare-one i j a t e h = let g = t .none h in record { low = omega arith; empty = λ s l m. let q : s ≡ j = omega arith in rw q g }
 
-  pub bare-four : (i : ℕ) (a b c d : Run) → Stated f z (i + 1) a → Stated f z (i + 2) b → Stated f z (i + 3) c → Stated f z (i + 4) d
-      → a .first + a .last + (b .first + b .last) + (c .first + c .last) + (d .first + d .last) ≡ 0 → Bare f z i (i + 4)
+  pub bare-four : (i a b c d : ℕ) → Filled f z (i + 1) a → Filled f z (i + 2) b → Filled f z (i + 3) c → Filled f z (i + 4) d → a + b + c + d ≡ 0 → Bare f z i (i + 4)
   bare-four i a b c d p q r s e =
       let x = bare-more i (i + 1) (i + 2) (bare-one i (i + 1) a p (omega arith) (omega arith)) (bare-one (i + 1) (i + 2) b q (omega arith) (omega arith)) in
       let y = bare-more (i + 2) (i + 3) (i + 4) (bare-one (i + 2) (i + 3) c r (omega arith) (omega arith)) (bare-one (i + 3) (i + 4) d s (omega arith) (omega arith)) in

@@ -1,20 +1,24 @@
 -- The laws of the row: it is filled slot by slot, and what holds of its runs holds of the file's.
 use Prim.Native.Nat.{ℕ, _+_, _-_, _*_, _≤_, _<_}
-use mathlib.Core.Path.{_≡_, sym, _∙_, ap}
+use mathlib.Core.Path.{_≡_, refl, sym, _∙_, ap, subst}
 use mathlib.Core.Bool.{Bool}
 use mathlib.Core.List.{List}
 use native.Mathlib.Decide.{decLe}
+use native.Mathlib.Nat.{add-zero}
 use native.Mathlib.Omega.{arith}
+use borrow.Author.Tests.{lt-ltb}
 use lib.ListN.{length, getD, set, length-set}
 use lib.Seq.{getD-set-same, getD-set-other}
-use Rattle.lent.specs.Number.{be32, Plain}
+use Rattle.lent.specs.Number.{be16, be32, widened, Plain}
 use Rattle.lent.specs.Least.{least}
 use Rattle.lent.proofs.Leasts.{least-same}
+use Rattle.lent.proofs.Numbers.{number-join}
 use Rattle.paper.specs.declared.sizes.Sizes.{Sizes}
 use Rattle.paper.specs.declared.sizes.Run.{Run}
-use Rattle.paper.specs.Sizes.{homeOf}
-use Rattle.paper.specs.Index.{runOf, shares, sharer, badAt, sharedAt}
-use Rattle.entries.specs.Row.{rowRun, Stated, Runs, Fits, Holder}
+use Rattle.paper.specs.Sizes.{wordAt, homeOf}
+use Rattle.paper.specs.Index.{runOf, shares, sharer, badAt, sharedAt, Booted}
+use Rattle.paper.proofs.Forms.{word-old, current-first, current-last}
+use Rattle.entries.specs.Row.{rowRun, Begins, Stated, Filled, Runs, Fits, Holder}
 
 -- a test of a run that was read
 pub read : (p : Run → Bool) {a b : Run} {x y : Bool} → a ≡ b → x ≡ p a → x ≡ y → p b ≡ y
@@ -29,16 +33,64 @@ fits-none z run i e = record { bad = record { none = λ s a b. absurd (omega ari
 pub runs-low : {f : List ℕ} {z : Sizes} {row : List ℕ} {i : ℕ} → Runs f z row i → (n : ℕ) → n ≤ i → Runs f z row n
 runs-low h n l = record { run = λ s a b. h .run s a (omega arith) }
 
--- the two numbers at a slot's home
-module _ (f : List ℕ) (z : Sizes) (s at x y : ℕ) (e : at ≡ homeOf z s) (p : x ≡ be32 f at) (q : y ≡ be32 f (at + 4)) where
-  pub run-is : _≡_ {A = Run} (record { first = x; last = y }) (runOf f z s)
-  run-is =
-      let j : x ≡ be32 f (homeOf z s) = p ∙ ap (be32 f) e in
-      let k : y ≡ be32 f (homeOf z s + 4) = q ∙ ap (λ h. be32 f (h + 4)) e in
+-- number i of an entry of either form, as it is decoded from place k
+module _ (f : List ℕ) (at i k x r : ℕ) (p : Plain x 4294967296 r) where
+  pub old-word : (v : ℕ) → k ≡ at + 2 * i → v ≡ be16 f k → x ≡ widened v → Plain (wordAt 0 f at i) 4294967296 r
+  unfolding wordAt
+  old-word v e q w = record { is = p .is ∙ w ∙ ap widened (q ∙ ap (be16 f) e); small = p .small }
+
+  pub current-word : k ≡ at + 4 * i → x ≡ be32 f k → Plain (wordAt 1 f at i) 4294967296 r
+  unfolding wordAt
+  current-word e q = record { is = p .is ∙ q ∙ ap (be32 f) e; small = p .small }
+
+-- a 16-bit number that is not negative is its own
+pub not-negative : (v : ℕ) → v < 32768 → Plain (widened v) 4294967296 v
+unfolding widened
+not-negative v h = record { is = simp (lt-ltb v 32768 h); small = omega arith }
+
+-- the entry at a slot's home
+pub run-stated : (f : List ℕ) (z : Sizes) (s at v : ℕ) (r : Run) → at ≡ homeOf z s → v ≡ z .version → Begins v f at r → Stated f z s r
+run-stated f z s at v r e w b =
+    let p : r .first ≡ wordAt (z .version) f (homeOf z s) 0 = b .first .is ∙ ap (λ x. wordAt x f at 0) w ∙ ap (λ x. wordAt (z .version) f x 0) e in
+    let q : r .last ≡ wordAt (z .version) f (homeOf z s) 1 = b .last .is ∙ ap (λ x. wordAt x f at 1) w ∙ ap (λ x. wordAt (z .version) f x 1) e in
+    record { is = simp (← p, ← q); first = b .first .small; last = b .last .small }
+
+-- a file that opens is old or current
+pub current : {f : List ℕ} {z : Sizes} → Booted f z → (z .version ≡ 0 → ⊥) → 1 ≡ z .version
+current b h = let e = ap (λ (y : Sizes). y .version) (b .reads) in omega (arith, b .version)
+
+-- ---- an entry that has nothing in it
+
+wide-zero : 0 ≡ widened 0
+unfolding widened
+wide-zero = refl
+
+-- the two halves are 0 where the whole is
+pub filled-old : (f : List ℕ) (z : Sizes) (s at x r : ℕ) → at ≡ homeOf z s → z .version ≡ 0 → x ≡ be32 f at → Plain x 4294967296 r → Filled f z s r
+filled-old f z s at x r e v p q = record { none = none; small = omega (arith, q .small) }
+  where
+    none : r ≡ 0 → runOf f z s .first + runOf f z s .last ≡ 0
+    none h =
+        let i : 0 ≡ be16 f (at + 0) = rw add-zero (omega (arith, number-join 2 2 f at, q .is)) in
+        let j : 0 ≡ be16 f (at + 2) = omega (arith, number-join 2 2 f at, q .is) in
+        let a : 0 ≡ wordAt (z .version) f (homeOf z s) 0 = word-old f (z .version) at 0 v i wide-zero ∙ ap (λ y. wordAt (z .version) f y 0) e in
+        let b : 0 ≡ wordAt (z .version) f (homeOf z s) 1 = word-old f (z .version) at 1 v j wide-zero ∙ ap (λ y. wordAt (z .version) f y 1) e in
+        omega arith
+
+pub filled-current : (f : List ℕ) (z : Sizes) (s : ℕ) (r : Run) → Stated f z s r → Filled f z s (r .first + r .last)
+filled-current f z s r t =
+    record { none = λ h. subst (λ (y : Run). y .first + y .last ≡ 0) (t .is) h; small = omega (arith, t .first, t .last) }
+
+-- the two numbers at a slot's home, in the current form
+module _ (f : List ℕ) (z : Sizes) (s at x y : ℕ) (v : z .version ≡ 1) (e : at ≡ homeOf z s) (p : x ≡ be32 f at) (q : y ≡ be32 f (at + 4)) where
+  pub current-is : _≡_ {A = Run} (record { first = x; last = y }) (runOf f z s)
+  current-is =
+      let j : x ≡ runOf f z s .first = p ∙ ap (be32 f) e ∙ sym (current-first f z s v) in
+      let k : y ≡ runOf f z s .last = q ∙ ap (λ h. be32 f (h + 4)) e ∙ sym (current-last f z s v) in
       simp (j, k)
 
-  pub run-stated : (a b : ℕ) → Plain x 4294967296 a → Plain y 4294967296 b → Stated f z s (record { first = a; last = b })
-  run-stated a b m n = record { is = rw (m .is, n .is) run-is; first = m .small; last = n .small }
+  pub current-stated : (a b : ℕ) → Plain x 4294967296 a → Plain y 4294967296 b → Stated f z s (record { first = a; last = b })
+  current-stated a b m n = record { is = rw (m .is, n .is) current-is; first = m .small; last = n .small }
 
 -- the run of slot s is stored
 module _ (f : List ℕ) (z : Sizes) (row : List ℕ) (s : ℕ) (low : 1 ≤ s) (long : 2 * s ≤ length row) (h : Runs f z row (s - 1)) (a : Run) (e : a ≡ runOf f z s) where

@@ -3,10 +3,11 @@ use Prim.Native.Nat.{ℕ, _+_, _-_, _*_, _≤_, _<_}
 use mathlib.Core.Path.{_≡_}
 use mathlib.Core.List.{List}
 use lib.ListN.{length, getD}
+use Rattle.lent.specs.Number.{Plain}
 use Rattle.lent.specs.Least.{None}
 use Rattle.paper.specs.declared.sizes.Sizes.{Sizes}
 use Rattle.paper.specs.declared.sizes.Run.{Run}
-use Rattle.paper.specs.Sizes.{capacityOf}
+use Rattle.paper.specs.Sizes.{wordAt, capacityOf}
 use Rattle.paper.specs.Index.{runOf, badAt, sharedAt, Booted}
 
 -- the run of slot s
@@ -25,11 +26,21 @@ pub record InFile (f : List ℕ) (z : Sizes) (s : ℕ) : Type 0 where
   pub low : 1 ≤ s
   pub high : s ≤ capacityOf z
 
+-- r is the run with which an entry of form v begins, at place `at`
+pub record Begins (v : ℕ) (f : List ℕ) (at : ℕ) (r : Run) : Type 0 where
+  pub first : Plain (wordAt v f at 0) 4294967296 (r .first)
+  pub last : Plain (wordAt v f at 1) 4294967296 (r .last)
+
 -- r is the run that the file states for slot s
 pub record Stated (f : List ℕ) (z : Sizes) (s : ℕ) (r : Run) : Type 0 where
   pub is : r ≡ runOf f z s
   pub first : r .first < 4294967296
   pub last : r .last < 4294967296
+
+-- r is 0 only where slot s is empty
+pub record Filled (f : List ℕ) (z : Sizes) (s r : ℕ) : Type 0 where
+  pub none : r ≡ 0 → runOf f z s .first + runOf f z s .last ≡ 0
+  pub small : r < 8589934592
 
 -- the first i runs of the row are those that the file states
 pub record Runs (f : List ℕ) (z : Sizes) (row : List ℕ) (i : ℕ) : Type 0 where

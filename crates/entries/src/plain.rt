@@ -65,11 +65,11 @@ fn four_empty(file: &[u8], z: Sizes, i: usize) -> bool
     requires { ⌜ i + 4 ≤ capacityOf z ⌝ }
     ensures { λ r. ⌜ (r ≡ true → Bare (now (file .entry)) z i (i + 4)) ⌝ }
 {
-    let a = super::row::run_at(file, z, i + 1);
-    let b = super::row::run_at(file, z, i + 2);
-    let c = super::row::run_at(file, z, i + 3);
-    let d = super::row::run_at(file, z, i + 4);
-    a.first + a.last + (b.first + b.last) + (c.first + c.last) + (d.first + d.last) == 0
+    let a = super::row::filled_at(file, z, i + 1);
+    let b = super::row::filled_at(file, z, i + 2);
+    let c = super::row::filled_at(file, z, i + 3);
+    let d = super::row::filled_at(file, z, i + 4);
+    a + b + c + d == 0
 }
 
 // How far the slots above `from` are empty, four at a time: so are most of those above U.

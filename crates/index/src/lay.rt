@@ -52,9 +52,9 @@ fn lay_row(row: &[u32], z: Sizes, j: usize, marks: &mut [u64]) -> usize
     i
 }
 
-// Goes on from slot `j` through the file.
+// Goes on from slot `j` through a file of the current form.
 fn lay_on(file: &[u8], z: Sizes, j: usize, row: &mut [u32], marks: &mut [u64]) -> usize
-    requires { ⌜ Decoded (now file) z (now row) j ⌝ }
+    requires { ⌜ Decoded (now file) z (now row) j × (z .version ≡ 1) ⌝ }
     requires { ⌜ Fits z (runOf (now file) z) j ⌝ }
     requires { ⌜ Reach z (now marks) × Shows (now marks) (z .n) (runOf (now file) z) j ⌝ }
     ensures { λ r. ⌜ Judged-to (now (file .entry)) z (now (row .exit)) r ⌝ }
@@ -64,7 +64,7 @@ fn lay_on(file: &[u8], z: Sizes, j: usize, row: &mut [u32], marks: &mut [u64]) -
     let top = z.n + z.d;
     let mut i = j;
     while i < u {
-        let a = entries::row::put_run(file, z, i + 1, &mut *row);
+        let a = entries::row::put_current(file, z, i + 1, &mut *row);
         if !well(a, top) {
             return i;
         }
@@ -74,6 +74,63 @@ fn lay_on(file: &[u8], z: Sizes, j: usize, row: &mut [u32], marks: &mut [u64]) -
         i = super::skip::skip(file, z, a, i + 1, &mut *row);
     }
     i
+}
+
+// The run is in order and ends in the file.
+fn ends_in(a: Run, z: Sizes) -> bool
+    requires { ⌜ Ranged z ⌝ }
+    ensures { λ r. ⌜ (r ≡ true → (a .first ≤ a .last) × (a .last ≤ z .n + z .d)) ⌝ }
+{
+    well(a, z.n + z.d)
+}
+
+// Goes on from slot `j` through the row, which holds every slot in use.
+fn lay_rest(row: &[u32], z: Sizes, j: usize, marks: &mut [u64]) -> usize
+    requires { ⌜ Ranged z ⌝ }
+    requires { ⌜ (2 * z .u ≤ length (now row)) × (j ≤ z .u) × Fits z (rowRun (now row)) j ⌝ }
+    requires { ⌜ Reach z (now marks) × Shows (now marks) (z .n) (rowRun (now row)) j ⌝ }
+    ensures { λ r. ⌜ (r ≤ z .u) × Fits z (rowRun (now (row .entry))) r ⌝ }
+    ensures { λ r. ⌜ (z .u ≤ r → Shows (now (marks .exit)) (z .n) (rowRun (now (row .entry))) (z .u)) ⌝ }
+{
+    let u = z.u;
+    let mut i = j;
+    while i < u {
+        let a = entries::row::run_in(row, i + 1);
+        if !ends_in(a, z) {
+            return i;
+        }
+        if !lodge(a, &mut *marks) {
+            return i;
+        }
+        i += 1;
+    }
+    i
+}
+
+// Of an old file the row is filled first: to ask for the form in `lay_on`, slot by slot, would cost the current form 8 in 100.
+fn lay_old(file: &[u8], z: Sizes, j: usize, row: &mut [u32], marks: &mut [u64]) -> usize
+    requires { ⌜ Decoded (now file) z (now row) j ⌝ }
+    requires { ⌜ Fits z (runOf (now file) z) j ⌝ }
+    requires { ⌜ Reach z (now marks) × Shows (now marks) (z .n) (runOf (now file) z) j ⌝ }
+    ensures { λ r. ⌜ Judged-to (now (file .entry)) z (now (row .exit)) r ⌝ }
+    ensures { λ r. ⌜ (z .u ≤ r → Shows (now (marks .exit)) (z .n) (runOf (now (file .entry)) z) (z .u)) ⌝ }
+{
+    entries::row::fill(file, z, j, &mut *row);
+    lay_rest(&*row, z, j, marks)
+}
+
+// The rest of the slots, by the form.
+fn lay_more(file: &[u8], z: Sizes, j: usize, row: &mut [u32], marks: &mut [u64]) -> usize
+    requires { ⌜ Decoded (now file) z (now row) j ⌝ }
+    requires { ⌜ Fits z (runOf (now file) z) j ⌝ }
+    requires { ⌜ Reach z (now marks) × Shows (now marks) (z .n) (runOf (now file) z) j ⌝ }
+    ensures { λ r. ⌜ Judged-to (now (file .entry)) z (now (row .exit)) r ⌝ }
+    ensures { λ r. ⌜ (z .u ≤ r → Shows (now (marks .exit)) (z .n) (runOf (now (file .entry)) z) (z .u)) ⌝ }
+{
+    if z.version == 0 {
+        return lay_old(file, z, j, row, marks);
+    }
+    lay_on(file, z, j, row, marks)
 }
 
 // How many slots break no rule, as far as marks can tell: the first `j`, of more, rise and are decoded.
@@ -92,5 +149,5 @@ pub fn lay(file: &[u8], z: Sizes, j: usize, row: &mut [u32], marks: &mut [u64]) 
     if i < j {
         return i;
     }
-    lay_on(file, z, j, row, marks)
+    lay_more(file, z, j, row, marks)
 }

@@ -6,6 +6,7 @@ ghost use Rattle.paper.specs.Index.{indexOf, openOf, runOf, Booted};
 use paper::answer::Opened;
 use paper::sizes::Sizes;
 
+pub mod change;
 mod lay;
 mod rise;
 pub mod rowed;
@@ -55,7 +56,7 @@ pub fn judge(file: &[u8]) -> Opened
     judge_sized(file, z)
 }
 
-// 01's call: the sizes of a file that opens, or which of the refusals 1 to 8 it gets.
+// 01's call: the sizes of a file that opens, or which of the refusals 1 and 3 to 8 it gets.
 pub fn open(file: &[u8]) -> Opened
     ensures { λ r. ⌜ openedSays r ≡ openedSays (openOf (now (file .entry))) ⌝ }
 {

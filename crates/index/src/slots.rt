@@ -51,6 +51,18 @@ fn marks_small(file: &[u8], z: Sizes, j: usize, row: &mut [u32]) -> Opened
     judge_rest(file, z, j, row, &mut marks)
 }
 
+// Marks for 65,536 records: an old file has fewer.
+fn marks_middle(file: &[u8], z: Sizes, j: usize, row: &mut [u32]) -> Opened
+    requires { ⌜ Decoded (now file) z (now row) j ⌝ }
+    requires { ⌜ (j < z .u) × Fits z (runOf (now file) z) j ⌝ }
+    requires { ⌜ z .n + z .d < 65536 ⌝ }
+    ensures { λ r. ⌜ r ≡ indexOf z (runOf (now (file .entry)) z) ⌝ }
+    ensures { λ _. ⌜ Runs (now (file .entry)) z (now (row .exit)) (z .u) ⌝ }
+{
+    let mut marks = [0u64; 1024];
+    judge_rest(file, z, j, row, &mut marks)
+}
+
 // Marks for all the records that a file can have.
 fn marks_large(file: &[u8], z: Sizes, j: usize, row: &mut [u32]) -> Opened
     requires { ⌜ Decoded (now file) z (now row) j ⌝ }
@@ -75,6 +87,9 @@ pub fn judge_row(file: &[u8], z: Sizes, row: &mut [u32]) -> Opened
     }
     if z.n + z.d < 16384 {
         return marks_small(file, z, j, row);
+    }
+    if z.n + z.d < 65536 {
+        return marks_middle(file, z, j, row);
     }
     marks_large(file, z, j, row)
 }

@@ -53,6 +53,10 @@ words (v ∷ vs) = bytes big 4 v ++ words vs
 unfoldable pub int16 : ℕ → ℤ
 int16 v = cond (ltb v 32768) (pos v) (negsuc (65535 - v))
 
+-- the 32 bits that stand for the same integer
+unfoldable pub widened : ℕ → ℕ
+widened v = cond (ltb v 32768) v (v + 4294901760)
+
 -- a result that is the number n, which is below top
 pub record Plain (n top r : ℕ) : Type 0 where
   pub is : r ≡ n

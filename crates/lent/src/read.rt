@@ -2,7 +2,7 @@
 ghost use mathlib.Core.Path.{_≡_};
 ghost use Prim.Native.Nat.{_+_, _≤_};
 ghost use lib.ListN.{length, getD};
-ghost use Rattle.lent.specs.Number.{Plain, be16, be32, be64, int16};
+ghost use Rattle.lent.specs.Number.{Plain, be16, be32, be64, int16, widened};
 
 pub fn byte(s: &[u8], at: usize) -> u8
     ensures { λ r. ⌜ r ≡ getD (now (s .entry)) at 0 ⌝ }
@@ -36,6 +36,20 @@ pub fn load32(s: &[u8], at: usize) -> u32
     ensures { λ r. ⌜ r ≡ be32 (now (s .entry)) at ⌝ }
 {
     wide(s[at]) * 16777216 + wide(s[at + 1]) * 65536 + wide(s[at + 2]) * 256 + wide(s[at + 3])
+}
+
+fn half(x: u8) -> u16
+    ensures { λ r. ⌜ Plain x 256 r ⌝ }
+{
+    x as u16
+}
+
+// Two bytes that are all there.
+pub fn load16(s: &[u8], at: usize) -> u16
+    requires { ⌜ at + 2 ≤ length (now s) ⌝ }
+    ensures { λ r. ⌜ r ≡ be16 (now (s .entry)) at ⌝ }
+{
+    half(s[at]) * 256 + half(s[at + 1])
 }
 
 pub fn word32(s: &[u8], at: usize) -> u32
@@ -78,6 +92,14 @@ fn signed(v: u16) -> i16
         return v as i16;
     }
     (v - 32768) as i16 + (-32768)
+}
+
+// The 32 bits that stand for the same integer. There and back by 32,768 is what the compiler knows for the extension of a sign.
+pub fn widened(v: u16) -> u32
+    ensures { λ r. ⌜ r ≡ widened v ⌝ }
+{
+    let turned = (v as u32 + 32768) % 65536;
+    std::num::wrapping_add_u32(turned, 4294934528)
 }
 
 pub fn int16(s: &[u8], at: usize) -> i16

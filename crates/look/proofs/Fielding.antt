@@ -5,8 +5,8 @@ use mathlib.Core.Bool.{Bool, true, false}
 use mathlib.Core.List.{List}
 use native.Mathlib.Nat.{add-assoc}
 use native.Mathlib.Omega.{arith}
-use lib.Dec.{ltb}
-use lib.IntN.{ℤ}
+use lib.Dec.{ltb, eqb}
+use lib.IntN.{ℤ, pos}
 use lib.Ieee.{Float, binary32, binary64, ofBits}
 use borrow.Author.Tests.{lt-leb, le-leb, ltb-false}
 use Rattle.lent.specs.Number.{be16, be32, be64, int16}
@@ -19,9 +19,10 @@ use Rattle.paper.specs.declared.answer.Taken.the-variants as taken
 use Rattle.paper.specs.declared.refusal.Refusal.{Refusal}
 use Rattle.paper.specs.declared.sizes.Sizes.{Sizes}
 use Rattle.paper.specs.declared.sizes.Run.{Run}
-use Rattle.paper.specs.Sizes.{homeOf}
-use Rattle.paper.specs.Entry.{naturalOf, kindOf, fieldsOf, noEntry}
+use Rattle.paper.specs.Sizes.{wordAt, homeOf}
+use Rattle.paper.specs.Entry.{naturalOf, kindOf, magicOf, positionOf, versionOne, fieldsOf, noEntry}
 use Rattle.paper.specs.Look.{foundOf}
+use Rattle.paper.proofs.Forms.{by-old, by-current}
 use Rattle.look.specs.declared.slot.Held.the-variants.{Scan, Refused as Unheld}
 use Rattle.look.specs.Slot.{heldOf}
 use Rattle.look.proofs.Slots.{held, refused-call, held-call}
@@ -59,14 +60,42 @@ kind-bits v a b = go (ltb v 32768) refl
 pub kind-same : {m n : ℕ} {a b c d : Float} → m ≡ n → a ≡ c → b ≡ d → kindOf m a b ≡ kindOf n c d
 kind-same p q r = cc
 
+-- ---- what has another place in each form
+
+module _ (v : ℕ) (f : List ℕ) (at : ℕ) {r : ℤ} where
+  pub position-old : v ≡ 0 → r ≡ int16 (be16 f (at + 6)) → r ≡ int16 (positionOf v f at)
+  unfolding positionOf
+  position-old e p = p ∙ ap int16 (by-old v _ _ e)
+
+  pub position-current : (v ≡ 0 → ⊥) → r ≡ int16 (be16 f (at + 60)) → r ≡ int16 (positionOf v f at)
+  unfolding positionOf
+  position-current h p = p ∙ ap int16 (by-current v _ _ h)
+
+  pub magic-old : v ≡ 0 → r ≡ int16 (be16 f (at + 4)) → r ≡ int16 (magicOf v f at)
+  unfolding magicOf
+  magic-old e p = p ∙ ap int16 (by-old v _ _ e)
+
+module _ (v : ℕ) (f : List ℕ) (at : ℕ) where
+  pub magic-current : (v ≡ 0 → ⊥) → pos 0 ≡ int16 (magicOf v f at)
+  unfolding magicOf int16
+  magic-current h = ap int16 (by-current v _ 0 h)
+
+  pub one-old : {m : ℕ} → v ≡ 0 → m ≡ be16 f (at + 4) → eqb m 2 ≡ versionOne v f at
+  unfolding versionOne magicOf
+  one-old e p = ap (λ x. eqb x 2) (p ∙ by-old v _ _ e) ∙ by-old v _ _ e
+
+  pub one-current : (v ≡ 0 → ⊥) → true ≡ versionOne v f at
+  unfolding versionOne
+  one-current h = by-current v _ _ h
+
 -- sixteen bytes from place 16 on
 pub source-end : (s : List ℕ) (at : ℕ) → part (at + 16) (at + 16 + 16) s ≡ part (at + 16) (at + 32) s
 source-end s at = ap (λ (e : ℕ). part (at + 16) e s) (add-assoc at 16 16)
 
 -- an entry is right where each of its fields is
-pub entry-is : (s : List ℕ) (at : ℕ) {x0 x1 x2 x3 : ℕ} {x4 : List ℕ} {x5 x6 x7 x8 x9 : ℕ} {x10 x11 x12 : ℤ} {x13 : Kind}
-    → x0 ≡ be32 s at
-    → x1 ≡ be32 s (at + 4)
+pub entry-is : (v : ℕ) (s : List ℕ) (at : ℕ) {x0 x1 x2 x3 : ℕ} {x4 : List ℕ} {x5 x6 x7 x8 x9 : ℕ} {x10 x11 x12 x13 : ℤ} {x14 : Kind}
+    → x0 ≡ wordAt v s at 0
+    → x1 ≡ wordAt v s at 1
     → x2 ≡ be32 s (at + 8)
     → x3 ≡ be32 s (at + 12)
     → x4 ≡ part (at + 16) (at + 32) s
@@ -77,11 +106,12 @@ pub entry-is : (s : List ℕ) (at : ℕ) {x0 x1 x2 x3 : ℕ} {x4 : List ℕ} {x5
     → x9 ≡ be32 s (at + 52)
     → x10 ≡ int16 (be16 s (at + 56))
     → x11 ≡ int16 (be16 s (at + 58))
-    → x12 ≡ int16 (be16 s (at + 60))
-    → x13 ≡ kindOf (naturalOf (int16 (be16 s (at + 56)))) (ofBits binary32 (be32 s (at + 36))) (ofBits binary64 (be64 s (at + 40)))
-    → _≡_ {A = Entry} (record { first = x0; last = x1; horizontal = x2; vertical = x3; source = x4; scan = x5; field4 = x6; field8 = x7; lst = x8; date = x9; mode = x10; number = x11; position = x12; kind = x13 }) (fieldsOf s at)
+    → x12 ≡ int16 (positionOf v s at)
+    → x13 ≡ int16 (magicOf v s at)
+    → x14 ≡ kindOf (naturalOf (int16 (be16 s (at + 56)))) (ofBits binary32 (be32 s (at + 36))) (ofBits binary64 (be64 s (at + 40)))
+    → _≡_ {A = Entry} (record { first = x0; last = x1; horizontal = x2; vertical = x3; source = x4; scan = x5; field4 = x6; field8 = x7; lst = x8; date = x9; mode = x10; number = x11; position = x12; magic = x13; kind = x14 }) (fieldsOf v s at)
 unfolding fieldsOf
-entry-is s at e0 e1 e2 e3 e4 e5 e6 e7 e8 e9 e10 e11 e12 e13 = cc
+entry-is v s at e0 e1 e2 e3 e4 e5 e6 e7 e8 e9 e10 e11 e12 e13 e14 = cc
 
 -- ---- what a slot's entry is found to be
 
@@ -92,9 +122,9 @@ module _ (f : List ℕ) (s : ℕ) where
       ap (λ (x : Entry). record { answer = taken.Refused q; entry = x }) p
       ∙ refused-call f s (λ r. record { answer = taken.Refused r; entry = noEntry }) _ h
 
-  pub found-held : {z : Sizes} {r : Run} {at : ℕ} {e : Entry} → heldOf f s ≡ Scan z r → at ≡ homeOf z s → e ≡ fieldsOf f at
+  pub found-held : {z : Sizes} {r : Run} {at : ℕ} {e : Entry} → heldOf f s ≡ Scan z r → at ≡ homeOf z s → e ≡ fieldsOf (z .version) f at
       → _≡_ {A = Found} (record { answer = taken.Accepted; entry = e }) (foundOf f s)
   unfolding foundOf
   found-held {z} {r} {at} {e} h p q =
-      ap (λ (x : Entry). record { answer = taken.Accepted; entry = x }) (q ∙ ap (fieldsOf f) p)
-      ∙ held-call f s (held f s h) (λ r. record { answer = taken.Refused r; entry = noEntry }) (λ y x. record { answer = taken.Accepted; entry = fieldsOf f (homeOf y s) })
+      ap (λ (x : Entry). record { answer = taken.Accepted; entry = x }) (q ∙ ap (fieldsOf (z .version) f) p)
+      ∙ held-call f s (held f s h) (λ r. record { answer = taken.Refused r; entry = noEntry }) (λ y x. record { answer = taken.Accepted; entry = fieldsOf (y .version) f (homeOf y s) })

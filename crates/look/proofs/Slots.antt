@@ -3,7 +3,7 @@ use Prim.Native.Nat.{ℕ, _+_, _*_, _≤_}
 use mathlib.Core.Path.{_≡_, refl, sym, _∙_, ap, subst}
 use mathlib.Core.Bool.{true, false}
 use mathlib.Core.List.{List, [], _∷_}
-use native.Mathlib.Nat.{mul-le-mul-right}
+use native.Mathlib.Nat.{mul-le-mul-right, add-mul}
 use native.Mathlib.Omega.{arith}
 use lib.ListN.{length}
 use borrow.Author.Tests.{leb-true, le-leb, not-false}
@@ -19,7 +19,7 @@ use Rattle.paper.specs.declared.answer.Opened.the-variants.{Opens, Refused}
 use Rattle.paper.specs.Sizes.{sizesOf, capacityOf, homeOf, Slotted}
 use Rattle.paper.specs.Index.{runOf, empty, openOf, Lies, Sound}
 use Rattle.paper.specs.Look.{slotTests, noSlot, noScan, slotChecks}
-use Rattle.paper.proofs.Sizing.{bytes-small, home-in, slotted}
+use Rattle.paper.proofs.Sizing.{bytes-small, home-end, home-in, slotted}
 use Rattle.paper.proofs.Opening.{open-reads, open-sound, then-clear, full-facts, lies-data, inside-all}
 use Rattle.look.specs.declared.slot.Held.{Held}
 use Rattle.look.specs.declared.slot.Held.the-variants.{Scan, Refused as Unheld}
@@ -122,6 +122,9 @@ module _ (f : List ℕ) (s : ℕ) where
 
     pub entry-in : homeOf z s + 62 ≤ length f
     entry-in = omega (arith, home-in (sound .booted) s (h .low) (h .high), sound .booted .ranged .shape .m-low)
+
+    pub entry-small : homeOf z s ≤ 4096000000
+    entry-small = omega (arith, home-end z (sound .booted .ranged .shape) s (h .low) (h .high), add-mul (z .n) (z .d) (z .l), bytes-small z (sound .booted .ranged))
 
     pub records-within : Within z r
     records-within =

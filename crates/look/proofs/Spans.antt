@@ -1,24 +1,25 @@
 -- The spans that show and read answer.
-use Prim.Native.Nat.{ℕ, _*_, _≤_}
+use Prim.Native.Nat.{ℕ, _*_}
 use mathlib.Core.Path.{_≡_, sym, _∙_, ap}
-use mathlib.Core.Bool.{false}
-use mathlib.Core.List.{List}
-use native.Mathlib.Omega.{arith}
-use Rattle.lent.specs.Checks.{clear, fired}
+use mathlib.Core.Bool.{Bool, true, false, not}
+use mathlib.Core.List.{List, [], _∷_}
+use Rattle.lent.specs.Checks.{Check, check, judge}
 use Rattle.lent.specs.Part.{part}
-use Rattle.lent.proofs.Checks.{judge-clear, judge-fires, judge-passed, judge-refused}
+use Rattle.lent.proofs.Checks.{judge-append}
 use Rattle.paper.specs.declared.sizes.Sizes.{Sizes}
 use Rattle.paper.specs.declared.sizes.Run.{Run}
 use Rattle.paper.specs.declared.refusal.Refusal.{Refusal}
+use Rattle.paper.specs.declared.refusal.Refusal.the-variants.{NotVersionOne}
 use Rattle.paper.specs.declared.answer.Span.{Span}
-use Rattle.paper.specs.declared.answer.Span.the-variants.{Part, Refused}
-use Rattle.paper.specs.Sizes.{sizesOf, startOf}
+use Rattle.paper.specs.declared.answer.Span.the-variants.{Refused}
+use Rattle.paper.specs.Sizes.{sizesOf, startOf, homeOf}
 use Rattle.paper.specs.Index.{runOf}
+use Rattle.paper.specs.Entry.{versionOne}
 use Rattle.paper.specs.Scan.{ruledOf}
 use Rattle.paper.specs.Look.{slotChecks, recordsSpan, showOf, readIn, readOf}
 use Rattle.look.specs.declared.slot.Held.the-variants.{Scan, Refused as Unheld}
 use Rattle.look.specs.Slot.{heldOf}
-use Rattle.look.proofs.Slots.{held, refused-call, held-call, clear-holding, records-within}
+use Rattle.look.proofs.Slots.{held, refused-call, held-call}
 
 module _ (f : List ℕ) (s : ℕ) where
   pub show-held : {z : Sizes} {r : Run} → heldOf f s ≡ Scan z r → recordsSpan z r ≡ showOf f s
@@ -29,50 +30,35 @@ module _ (f : List ℕ) (s : ℕ) where
   unfolding showOf
   show-refused e = refused-call f s Refused (recordsSpan (sizesOf f) (runOf f (sizesOf f) s)) e
 
-never : (a b : ℕ) (q : Refusal) → Refused q ≡ Part a b → ⊥
-never a b q e = let x : _≡_ {A = ℕ} 0 1 = cc in omega arith
-
-one : (p q : Refusal) → Refused p ≡ Refused q → p ≡ q
-one p q e = cc
-
 -- the scan in the bytes from `from` up to `to`
 abbrev readBy : List ℕ → ℕ → ℕ → Span
 readBy f from to = readIn from (ruledOf (part from to f) false)
 
-same-read : (f : List ℕ) (a b c d : ℕ) → Part a b ≡ Part c d → readBy f a b ≡ readBy f c d
-same-read f a b c d e =
-    let p : a ≡ c = cc in
-    let q : b ≡ d = cc in
-    ap (λ (x : ℕ). readBy f x b) p ∙ ap (readBy f c) q
-
-same-from : (a b c d : ℕ) → Part a b ≡ Part c d → a ≡ c
-same-from a b c d e = cc
-
+-- 18, then the rules
 module _ (f : List ℕ) (s : ℕ) where
-  abbrev from-of : ℕ
-  from-of = startOf (sizesOf f) (runOf f (sizesOf f) s .first)
+  abbrev own : Sizes → List (Check Refusal)
+  own z = check (not (versionOne (z .version) f (homeOf z s))) NotVersionOne ∷ []
 
-  abbrev to-of : ℕ
-  to-of = runOf f (sizesOf f) s .last * sizesOf f .l
+  abbrev scan : Sizes → Run → Span
+  scan z r = readBy f (startOf z (r .first)) (r .last * z .l)
 
-  module _ {from to : ℕ} (e : showOf f s ≡ Part from to) where
-    shown : (fired (slotChecks f s) ≡ clear) × (Part from-of to-of ≡ Part from to)
-    unfolding showOf
-    shown = judge-passed Refused (slotChecks f s) (Part from-of to-of) (Part from to) (never from to) e
+  both : readOf f s ≡ judge Refused (slotChecks f s) (judge Refused (own (sizesOf f)) (scan (sizesOf f) (runOf f (sizesOf f) s)))
+  unfolding readOf
+  both = judge-append Refused (slotChecks f s) (own (sizesOf f)) (scan (sizesOf f) (runOf f (sizesOf f) s))
 
-    pub read-shown : readBy f from to ≡ readOf f s
-    unfolding readOf
-    read-shown =
-        sym (same-read f from-of to-of from to (shown .1)) ∙ sym (judge-clear Refused (slotChecks f s) (readBy f from-of to-of) (shown .0))
+  pub read-refused : {q : Refusal} → heldOf f s ≡ Unheld q → Refused q ≡ readOf f s
+  read-refused e = refused-call f s Refused (judge Refused (own (sizesOf f)) (scan (sizesOf f) (runOf f (sizesOf f) s))) e ∙ sym both
 
-    pub shown-small : from ≤ 4096000000
-    shown-small =
-        let w = records-within f s (clear-holding f s (shown .0)) in
-        omega (arith, w .order, w .end, same-from from-of to-of from to (shown .1))
+  module _ {z : Sizes} {r : Run} (e : heldOf f s ≡ Scan z r) where
+    one : judge Refused (own z) (scan z r) ≡ readOf f s
+    one = held-call f s (held f s e) Refused (λ y x. judge Refused (own y) (scan y x)) ∙ sym both
 
-  pub read-refused : {q : Refusal} → showOf f s ≡ Refused q → Refused q ≡ readOf f s
-  unfolding showOf readOf
-  read-refused {q} e =
-      sym
-      (judge-fires Refused (slotChecks f s) (readBy f from-of to-of) q
-      (judge-refused Refused (slotChecks f s) (Part from-of to-of) q one (λ x. never from-of to-of q (sym x)) e))
+    module _ {at : ℕ} {b : Bool} (home : at ≡ homeOf z s) (asked : b ≡ versionOne (z .version) f at) where
+      test : versionOne (z .version) f (homeOf z s) ≡ b
+      test = sym (asked ∙ ap (versionOne (z .version) f) home)
+
+      pub read-other : not b ≡ true → Refused NotVersionOne ≡ readOf f s
+      read-other h = rw (test, h) at one
+
+      pub read-held : {from to : ℕ} → not b ≡ false → from ≡ startOf z (r .first) → to ≡ r .last * z .l → readBy f from to ≡ readOf f s
+      read-held {from} {to} h p q = let o : scan z r ≡ readOf f s = rw (test, h) at one in rw (p, q) o

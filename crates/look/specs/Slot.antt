@@ -10,7 +10,7 @@ use Rattle.paper.specs.Look.{slotChecks}
 use Rattle.look.specs.declared.slot.Held.{Held}
 use Rattle.look.specs.declared.slot.Held.the-variants.{Scan, Refused}
 
--- 1 to 8, then 9, then 10; else the sizes and the run
+-- open's own, then 9, then 10; else the sizes and the run
 unfoldable pub heldOf : List ℕ → ℕ → Held
 heldOf f s = judge Refused (slotChecks f s) (Scan (sizesOf f) (runOf f (sizesOf f) s))
 

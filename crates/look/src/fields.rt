@@ -2,10 +2,12 @@
 ghost use mathlib.Core.Path.{_≡_};
 ghost use Prim.Native.Nat.{_+_, _≤_};
 ghost use lib.ListN.{length};
+ghost use Rattle.lent.specs.Number.{int16};
 ghost use Rattle.lent.specs.Part.{part};
-ghost use Rattle.paper.specs.Entry.{kindOf, fieldsOf, noEntry};
+ghost use Rattle.paper.specs.Entry.{kindOf, magicOf, positionOf, versionOne, fieldsOf, noEntry};
 ghost use Rattle.paper.specs.Look.{foundOf};
 use super::slot::Held;
+use bootstrap::words::word;
 use lent::read::int16;
 use lent::read::word16;
 use lent::read::word32;
@@ -45,17 +47,50 @@ fn source(file: &[u8], at: usize) -> [u8; 16]
     a
 }
 
+// The position code, which each form has at a place of its own.
+fn position(file: &[u8], version: usize, at: usize) -> i16
+    requires { ⌜ at ≤ 4096000000 ⌝ }
+    ensures { λ r. ⌜ r ≡ int16 (positionOf version (now (file .entry)) at) ⌝ }
+{
+    if version == 0 {
+        return int16(file, at + 6);
+    }
+    int16(file, at + 60)
+}
+
+// The magic number, which the current form does not have.
+fn magic(file: &[u8], version: usize, at: usize) -> i16
+    requires { ⌜ at ≤ 4096000000 ⌝ }
+    ensures { λ r. ⌜ r ≡ int16 (magicOf version (now (file .entry)) at) ⌝ }
+{
+    if version == 0 {
+        return int16(file, at + 4);
+    }
+    0
+}
+
+// The scan is of version 1. A current entry has no other.
+pub fn version_one(file: &[u8], version: usize, at: usize) -> bool
+    requires { ⌜ at ≤ 4096000000 ⌝ }
+    ensures { λ r. ⌜ r ≡ versionOne version (now (file .entry)) at ⌝ }
+{
+    if version == 0 {
+        return word16(file, at + 4) == 2;
+    }
+    true
+}
+
 // The fields of the entry at a place. A mode above 32,767 stands for a negative number, and is of neither kind as it is.
-pub fn fields(file: &[u8], at: usize) -> Entry
-    requires { ⌜ at + 62 ≤ length (now file) ⌝ }
-    ensures { λ r. ⌜ r ≡ fieldsOf (now (file .entry)) at ⌝ }
+pub fn fields(file: &[u8], version: usize, at: usize) -> Entry
+    requires { ⌜ (at + 62 ≤ length (now file)) × (at ≤ 4096000000) ⌝ }
+    ensures { λ r. ⌜ r ≡ fieldsOf version (now (file .entry)) at ⌝ }
 {
     let mode = word16(file, at + 56);
     let field4 = word32(file, at + 36);
     let field8 = word64(file, at + 40);
     Entry {
-        first: word32(file, at),
-        last: word32(file, at + 4),
+        first: word(file, version, at, 0),
+        last: word(file, version, at, 1),
         horizontal: word32(file, at + 8),
         vertical: word32(file, at + 12),
         source: source(file, at + 16),
@@ -66,7 +101,8 @@ pub fn fields(file: &[u8], at: usize) -> Entry
         date: word32(file, at + 52),
         mode: int16(file, at + 56),
         number: int16(file, at + 58),
-        position: int16(file, at + 60),
+        position: position(file, version, at),
+        magic: magic(file, version, at),
         kind: kind(
             mode as usize,
             super::float::single(field4),
@@ -93,6 +129,7 @@ fn nothing() -> Entry
         mode: 0,
         number: 0,
         position: 0,
+        magic: 0,
         kind: Kind::Other(0.0, 0.0),
     }
 }
@@ -105,7 +142,7 @@ pub fn found(file: &[u8], slot: usize) -> Found
     match h {
         Held::Scan(z, _) => Found {
             answer: Taken::Accepted,
-            entry: fields(file, z.home(slot)),
+            entry: fields(file, z.version, z.home(slot)),
         },
         Held::Refused(r) => Found {
             answer: Taken::Refused(r),

@@ -6,7 +6,7 @@ use paper::refusal::Refusal;
 use paper::sizes::Run;
 use paper::sizes::Sizes;
 
-// The sizes of the file and the run of the slot; or one of the refusals 1 to 10.
+// The sizes of the file and the run of the slot; or one of open's refusals, 9 or 10.
 pub enum Held {
     Scan(Sizes, Run),
     Refused(Refusal),

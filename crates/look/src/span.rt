@@ -3,6 +3,7 @@ ghost use mathlib.Core.Path.{_≡_};
 ghost use Prim.Native.Nat.{_≤_};
 ghost use Rattle.lent.specs.Part.{part};
 ghost use mathlib.Core.Bool.{false};
+ghost use Rattle.paper.specs.Sizes.{startOf};
 ghost use Rattle.paper.specs.Scan.{ruledOf};
 ghost use Rattle.paper.specs.Look.{recordsSpan, readIn, showOf, readOf};
 ghost use Rattle.look.specs.Slot.{Within};
@@ -13,12 +14,20 @@ use paper::refusal::Refusal;
 use paper::sizes::Run;
 use paper::sizes::Sizes;
 
+// Where the records of a run begin.
+fn start(z: Sizes, a: Run) -> usize
+    requires { ⌜ Within z a ⌝ }
+    ensures { λ r. ⌜ r ≡ startOf z (a .first) ⌝ }
+{
+    (a.first - 1) * z.l
+}
+
 // The bytes of the records of a run.
 fn records(z: Sizes, a: Run) -> Span
     requires { ⌜ Within z a ⌝ }
     ensures { λ r. ⌜ r ≡ recordsSpan z a ⌝ }
 {
-    Span::Part((a.first - 1) * z.l, a.last * z.l)
+    Span::Part(start(z, a), a.last * z.l)
 }
 
 // The span of a slot's records.
@@ -44,13 +53,18 @@ fn scan_in(file: &[u8], from: usize, to: usize) -> Span
     }
 }
 
-// The span of a slot's scan.
+// The span of a slot's scan: of version 1, and by the rules.
 pub fn scanned(file: &[u8], slot: usize) -> Span
     ensures { λ r. ⌜ r ≡ readOf (now (file .entry)) slot ⌝ }
 {
-    let s = shown(file, slot);
-    match s {
-        Span::Part(from, to) => scan_in(file, from, to),
-        Span::Refused(r) => Span::Refused(r),
+    let h = super::slot::find(file, slot);
+    match h {
+        Held::Scan(z, a) => {
+            if !super::fields::version_one(file, z.version, z.home(slot)) {
+                return Span::Refused(Refusal::NotVersionOne);
+            }
+            scan_in(file, start(z, a), a.last * z.l)
+        }
+        Held::Refused(r) => Span::Refused(r),
     }
 }

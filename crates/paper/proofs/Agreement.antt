@@ -10,36 +10,31 @@ use Rattle.lent.specs.Checks.{Fired, clear, fires, fired}
 use Rattle.lent.specs.Lists.{all}
 use Rattle.lent.specs.Write.{write, pad}
 use Rattle.lent.proofs.Lists.{all-true, true-all, true≢false, not-so, asked, answered}
-use Rattle.lent.proofs.Checks.{judge-clear}
 use Rattle.lent.proofs.Sames.{same-true, true-same}
 use Rattle.lent.proofs.Writes.{write-nothing}
 use Rattle.paper.specs.declared.sizes.Sizes.{Sizes}
 use Rattle.paper.specs.declared.refusal.Refusal.{Refusal}
 use Rattle.paper.specs.declared.refusal.Refusal.the-variants.{Disagrees}
-use Rattle.paper.specs.declared.answer.Opened.the-variants as opened
-use Rattle.paper.specs.declared.answer.Opened.the-variants.{Opens}
 use Rattle.paper.specs.declared.job.Job.{Job}
 use Rattle.paper.specs.declared.job.Step.{Step}
 use Rattle.paper.specs.declared.job.Step.the-variants.{Wrote, Refused}
-use Rattle.paper.specs.Sizes.{sizesOf, bootBytes, recordOf, startOf, homeOf, bootChecks}
-use Rattle.paper.specs.Index.{bootOf, openOf, Booted}
+use Rattle.paper.specs.Sizes.{sizesOf, bootBytes, recordOf, startOf, homeOf, versionOf, changeBoot}
+use Rattle.paper.specs.Index.{openOf, Booted}
 use Rattle.paper.specs.Store.{Write, perform, countOf, paddedOf, sizesAfter, entryAfter, writesOf}
 use Rattle.paper.specs.Step.{isClear, agreeTests, agrees, writeAt, hasLeft, stepFile, placed, moved, stepJob, standTests, stands, confirmOf, stepAnswer, steppedOf, Agreeing, Standing}
-use Rattle.paper.proofs.Opening.{opens-clear, boot-sound, sound-boot}
+use Rattle.paper.proofs.Opening.{change-booted, booted-change}
 use Rattle.paper.proofs.Writes.{length-writes, writes-row, writes-boot, writes-entry, writes-past, row-saves, row-is}
 
 -- refusals 1 to 5, as a fact and as a test
-clear-booted : (f : List ℕ) → isClear (fired (bootChecks f)) ≡ true → Booted f (sizesOf f)
-unfolding bootOf
-clear-booted f e = boot-sound (judge-clear opened.Refused (bootChecks f) (Opens (sizesOf f)) (clear-is (fired (bootChecks f)) e))
+clear-booted : (f : List ℕ) → isClear (fired (changeBoot f)) ≡ true → Booted f (sizesOf f) × (versionOf f ≡ 1)
+clear-booted f e = change-booted f (clear-is (fired (changeBoot f)) e)
   where
     clear-is : (x : Fired Refusal) → isClear x ≡ true → x ≡ clear
     clear-is clear e = refl
     clear-is (fires r) e = absurd (true≢false e refl)
 
-booted-clear : (f : List ℕ) (z : Sizes) → Booted f z → isClear (fired (bootChecks f)) ≡ true
-unfolding bootOf
-booted-clear f z b = ap isClear (opens-clear (bootChecks f) (sizesOf f) z (sound-boot b) .0)
+booted-clear : (f : List ℕ) (z : Sizes) → Booted f z → z .version ≡ 1 → isClear (fired (changeBoot f)) ≡ true
+booted-clear f z b v = ap isClear (booted-change f b (ap (λ (y : Sizes). y .version) (b .reads) ∙ v))
 
 -- ---- 14
 
@@ -52,7 +47,8 @@ module _ (f scan : List ℕ) (j : Job) where
       let u = t .1 .1 .1 in
       let v = u .1 .1 .1 .1 in
       record {
-        booted = clear-booted f (u .0);
+        booted = clear-booted f (u .0) .0;
+        current = clear-booted f (u .0) .1;
         size = eqb-true _ _ (t .0);
         span = eqb-true _ _ (t .1 .0);
         begun = same-true _ _ (t .1 .1 .0);
@@ -76,7 +72,7 @@ module _ (f scan : List ℕ) (j : Job) where
           (
             true-same (a .begun),
             (
-              booted-clear f z (a .booted),
+              booted-clear f z (a .booted) (a .current),
               (
                 answered _ _ (λ q. lt-ltb _ _ (a .filled q)),
                 (

@@ -8,7 +8,7 @@ use lib.Dec.{eqb}
 use lib.ListN.{getD}
 use borrow.Author.Tests.{ne-eqb}
 use Rattle.paper.specs.declared.refusal.Refusal.{Refusal}
-use Rattle.paper.specs.declared.refusal.Refusal.the-variants.{TooShort, OldForm, UnknownForm, OutOfRange, PastEnd, BadEntry, AboveUse, SharedRecord, NoSuchSlot, EmptySlot, BadScan, NoEmptySlot, NoRoom, Disagrees, Differs, BadBlank, TooSmall}
+use Rattle.paper.specs.declared.refusal.Refusal.the-variants.{TooShort, OldForm, UnknownForm, OutOfRange, PastEnd, BadEntry, AboveUse, SharedRecord, NoSuchSlot, EmptySlot, BadScan, NoEmptySlot, NoRoom, Disagrees, Differs, BadBlank, TooSmall, NotVersionOne}
 use Rattle.paper.specs.declared.answer.Opened.{Opened}
 use Rattle.paper.specs.declared.answer.Opened.the-variants as opened
 use Rattle.paper.specs.declared.answer.Listed.{Listed}
@@ -49,6 +49,7 @@ refusalAt n v =
     ∷ Differs
     ∷ BadBlank
     ∷ TooSmall
+    ∷ NotVersionOne
     ∷ []) n TooShort
 
 undo : (r : Refusal) → refusalAt (numberOf r) (valueOf r) ≡ r
@@ -69,6 +70,7 @@ undo Disagrees = refl
 undo Differs = refl
 undo BadBlank = refl
 undo TooSmall = refl
+undo NotVersionOne = refl
 
 -- no refusal has number 0, the number of what is accepted
 pub number-some : (r : Refusal) → numberOf r ≡ 0 → ⊥
@@ -92,7 +94,7 @@ module _ {A : Type 0} (accept : List ℕ → A) (refuse : Refusal → A) where
 abbrev opens : List ℕ → Opened
 opens vs =
     opened.Opens
-    (record { n = getD vs 0 0; d = getD vs 1 0; l = getD vs 2 0; m = getD vs 3 0; u = getD vs 4 0; counter = getD vs 5 0; kind = getD vs 6 0 })
+    (record { n = getD vs 0 0; d = getD vs 1 0; l = getD vs 2 0; m = getD vs 3 0; u = getD vs 4 0; counter = getD vs 5 0; kind = getD vs 6 0; version = getD vs 7 0 })
 
 undo-opened : (a : Opened) → answerAt opens opened.Refused (openedSays a) ≡ a
 undo-opened (opened.Opens z) = refl

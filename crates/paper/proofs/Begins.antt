@@ -28,11 +28,11 @@ use Rattle.paper.specs.declared.answer.Ruled.the-variants.{Keeps}
 use Rattle.paper.specs.declared.answer.Taken.the-variants.{Accepted}
 use Rattle.paper.specs.declared.job.Job.{Job}
 use Rattle.paper.specs.Sizes.{sizesOf, capacityOf, startOf, roomOf}
-use Rattle.paper.specs.Index.{runOf, empty, Full, openChecks, openOf, Lies, Sound}
+use Rattle.paper.specs.Index.{runOf, empty, Full, changeChecks, openOf, Lies, Sound, Changeable}
 use Rattle.paper.specs.Scan.{headlen, datalen, ruledOf}
-use Rattle.paper.specs.Look.{slotTests, noSlot, noScan, slotChecks, InIndex}
+use Rattle.paper.specs.Look.{slotTests, noSlot, heldChecks, slotChecks, InIndex}
 use Rattle.paper.specs.Store.{recordsFor, runFrom, emptySlot, refused, accepted, placeFor, savesAt, saveJob, clearJob, reasonOf, scanChecks, saveOf, keepSlot, keepOf, clearOf, dataFrom, dataWrites, sizesAfter, entryAfter}
-use Rattle.paper.proofs.Opening.{full-facts, facts-full, full-holds, then-clear, then-opens, open-sound, empty-lies}
+use Rattle.paper.proofs.Opening.{full-facts, facts-full, full-holds, then-clear, may-change, change-may, empty-lies}
 use Rattle.paper.proofs.Rules.{keeps-lengths}
 use Rattle.paper.proofs.Reasons.{no-reason}
 use Rattle.paper.proofs.Writes.{enough, some-record}
@@ -51,7 +51,7 @@ pub record Begins (z : Sizes) (f scan : List ℕ) (j : Job) : Type 0 where
 
 -- ---- a save
 
-module _ {f : List ℕ} {z : Sizes} (S : Sound f z) (slot : ℕ) (scan about : List ℕ) (k54 : length about ≡ 54) (s₁ : 1 ≤ slot) (s₂ : slot ≤ capacityOf z)
+module _ {f : List ℕ} {z : Sizes} (S : Sound f z) (v : z .version ≡ 1) (slot : ℕ) (scan about : List ℕ) (k54 : length about ≡ 54) (s₁ : 1 ≤ slot) (s₂ : slot ≤ capacityOf z)
     (long : 256 ≤ length scan) (r : ℕ) (F : FreeAt z (length f) (runOf f z) (recordsFor z (length scan)) r) where
   abbrev K : ℕ
   K = recordsFor z (length scan)
@@ -98,6 +98,7 @@ module _ {f : List ℕ} {z : Sizes} (S : Sound f z) (slot : ℕ) (scan about : L
       record {
         ready = record {
           sound = S;
+          current = v;
           low = s₁;
           used = omega arith;
           free =
@@ -115,6 +116,7 @@ module _ {f : List ℕ} {z : Sizes} (S : Sound f z) (slot : ℕ) (scan about : L
         };
         agreeing = record {
           booted = S .booted;
+          current = v;
           size = refl;
           span = refl;
           begun = refl;
@@ -130,7 +132,7 @@ module _ {f : List ℕ} {z : Sizes} (S : Sound f z) (slot : ℕ) (scan about : L
 
 -- ---- a clear
 
-module _ {f : List ℕ} {z : Sizes} (S : Sound f z) (slot : ℕ) (s₁ : 1 ≤ slot) (s₂ : slot ≤ capacityOf z)
+module _ {f : List ℕ} {z : Sizes} (S : Sound f z) (v : z .version ≡ 1) (slot : ℕ) (s₁ : 1 ≤ slot) (s₂ : slot ≤ capacityOf z)
     (there : Full (runOf f z slot)) where
   abbrev q : Job
   q = clearJob f slot
@@ -144,6 +146,7 @@ module _ {f : List ℕ} {z : Sizes} (S : Sound f z) (slot : ℕ) (s₁ : 1 ≤ s
       record {
         ready = record {
           sound = S;
+          current = v;
           low = s₁;
           used = full-holds (S .laid) slot s₁ s₂ there .high;
           free = tt;
@@ -159,6 +162,7 @@ module _ {f : List ℕ} {z : Sizes} (S : Sound f z) (slot : ℕ) (s₁ : 1 ≤ s
         };
         agreeing = record {
           booted = S .booted;
+          current = v;
           size = refl;
           span = refl;
           begun = refl;
@@ -213,7 +217,7 @@ pub facts-slot : (z : Sizes) (slot : ℕ) → InIndex z slot → not (all (slotT
 facts-slot z slot h = ap not (true-all (slotTests z slot) (le-leb _ _ (h .low), (le-leb _ _ (h .high), tt)))
 
 pub record SaveTaken (f : List ℕ) (slot : ℕ) (scan : List ℕ) : Type 0 where
-  pub opens : openOf f ≡ Opens (sizesOf f)
+  pub may : Changeable f (sizesOf f)
   pub slotted : InIndex (sizesOf f) slot
   pub placed : Placed f scan
 
@@ -224,18 +228,18 @@ module _ (f : List ℕ) (slot : ℕ) (scan about : List ℕ) where
   pub save-taken : saveOf f slot scan about .answer ≡ Accepted → SaveTaken f slot scan
   unfolding saveOf
   save-taken e =
-      let p = then-clear f saveChecks (taken-clear (openChecks f ++ saveChecks) (saveJob f slot scan about) e) in
+      let p = may-change f saveChecks (taken-clear (changeChecks f ++ saveChecks) (saveJob f slot scan about) e) in
       let c = clear-cons _ _ (scanChecks f scan) (p .1) in
-      record { opens = p .0; slotted = slot-facts (sizesOf f) slot (c .0); placed = clear-placed f scan (c .1) }
+      record { may = p .0; slotted = slot-facts (sizesOf f) slot (c .0); placed = clear-placed f scan (c .1) }
 
   pub taken-save : SaveTaken f slot scan → saveOf f slot scan about ≡ accepted (saveJob f slot scan about)
   unfolding saveOf
   taken-save h =
-      clear-taken (openChecks f ++ saveChecks) (saveJob f slot scan about)
-      (then-opens f saveChecks (h .opens) ∙ cons-clear _ _ (scanChecks f scan) (facts-slot (sizesOf f) slot (h .slotted)) (placed-clear f scan (h .placed)))
+      clear-taken (changeChecks f ++ saveChecks) (saveJob f slot scan about)
+      (change-may f saveChecks (h .may) ∙ cons-clear _ _ (scanChecks f scan) (facts-slot (sizesOf f) slot (h .slotted)) (placed-clear f scan (h .placed)))
 
 pub record KeepTaken (f scan : List ℕ) : Type 0 where
-  pub opens : openOf f ≡ Opens (sizesOf f)
+  pub may : Changeable f (sizesOf f)
   pub slotted : keepSlot f ≢ 0
   pub placed : Placed f scan
 
@@ -246,15 +250,15 @@ module _ (f scan about : List ℕ) where
   pub keep-taken : keepOf f scan about .answer ≡ Accepted → KeepTaken f scan
   unfolding keepOf
   keep-taken e =
-      let p = then-clear f keepChecks (taken-clear (openChecks f ++ keepChecks) (saveJob f (keepSlot f) scan about) e) in
+      let p = may-change f keepChecks (taken-clear (changeChecks f ++ keepChecks) (saveJob f (keepSlot f) scan about) e) in
       let c = clear-cons _ _ (scanChecks f scan) (p .1) in
-      record { opens = p .0; slotted = eqb-false _ _ (c .0); placed = clear-placed f scan (c .1) }
+      record { may = p .0; slotted = eqb-false _ _ (c .0); placed = clear-placed f scan (c .1) }
 
   pub taken-keep : KeepTaken f scan → keepOf f scan about ≡ accepted (saveJob f (keepSlot f) scan about)
   unfolding keepOf
   taken-keep h =
-      clear-taken (openChecks f ++ keepChecks) (saveJob f (keepSlot f) scan about)
-      (then-opens f keepChecks (h .opens) ∙ cons-clear _ _ (scanChecks f scan) (ne-eqb (keepSlot f) 0 (h .slotted)) (placed-clear f scan (h .placed)))
+      clear-taken (changeChecks f ++ keepChecks) (saveJob f (keepSlot f) scan about)
+      (change-may f keepChecks (h .may) ∙ cons-clear _ _ (scanChecks f scan) (ne-eqb (keepSlot f) 0 (h .slotted)) (placed-clear f scan (h .placed)))
 
 -- "keep a scan in the lowest empty slot": one of the index's
 pub keep-slotted : (f : List ℕ) → keepSlot f ≢ 0 → InIndex (sizesOf f) (keepSlot f)
@@ -264,48 +268,58 @@ keep-slotted f h =
     let l : Lowest (λ s. empty (runOf f z s)) (capacityOf z) (keepSlot f) = lowest-least refl (omega arith) in
     record { low = l .low; high = l .high }
 
--- of entry, show, read and clear: a slot that holds a scan
+-- of entry, show and read: a slot that holds a scan
 pub record SlotTaken (f : List ℕ) (slot : ℕ) : Type 0 where
   pub opens : openOf f ≡ Opens (sizesOf f)
   pub slotted : InIndex (sizesOf f) slot
   pub full : Full (runOf f (sizesOf f) slot)
 
+-- and of clear
+pub record ClearTaken (f : List ℕ) (slot : ℕ) : Type 0 where
+  pub may : Changeable f (sizesOf f)
+  pub slotted : InIndex (sizesOf f) slot
+  pub full : Full (runOf f (sizesOf f) slot)
+
 module _ (f : List ℕ) (slot : ℕ) where
-  abbrev ownChecks : List (Check Refusal)
-  ownChecks = noSlot (sizesOf f) slot ∷ noScan (runOf f (sizesOf f) slot) ∷ []
+  held-facts : fired (heldChecks f slot) ≡ clear → InIndex (sizesOf f) slot × Full (runOf f (sizesOf f) slot)
+  held-facts e = let c = clear-all (heldChecks f slot) e in (slot-facts (sizesOf f) slot (c .0), full-facts (runOf f (sizesOf f) slot) (c .1 .0))
+
+  facts-held : InIndex (sizesOf f) slot → Full (runOf f (sizesOf f) slot) → fired (heldChecks f slot) ≡ clear
+  facts-held i h = all-clear (heldChecks f slot) (facts-slot (sizesOf f) slot i, (facts-full (runOf f (sizesOf f) slot) h, tt))
 
   pub slot-is-taken : fired (slotChecks f slot) ≡ clear → SlotTaken f slot
   slot-is-taken e =
-      let p = then-clear f ownChecks e in
-      let c = clear-all ownChecks (p .1) in
-      record { opens = p .0; slotted = slot-facts (sizesOf f) slot (c .0); full = full-facts (runOf f (sizesOf f) slot) (c .1 .0) }
+      let p = then-clear f (heldChecks f slot) e in
+      let h = held-facts (p .1) in
+      record { opens = p .0; slotted = h .0; full = h .1 }
 
-  pub clear-is-taken : clearOf f slot .answer ≡ Accepted → SlotTaken f slot
+  pub clear-is-taken : clearOf f slot .answer ≡ Accepted → ClearTaken f slot
   unfolding clearOf
-  clear-is-taken e = slot-is-taken (taken-clear (slotChecks f slot) (clearJob f slot) e)
+  clear-is-taken e =
+      let p = may-change f (heldChecks f slot) (taken-clear (changeChecks f ++ heldChecks f slot) (clearJob f slot) e) in
+      let h = held-facts (p .1) in
+      record { may = p .0; slotted = h .0; full = h .1 }
 
-  pub taken-is-clear : SlotTaken f slot → clearOf f slot ≡ accepted (clearJob f slot)
+  pub taken-is-clear : ClearTaken f slot → clearOf f slot ≡ accepted (clearJob f slot)
   unfolding clearOf
   taken-is-clear h =
-      clear-taken (slotChecks f slot) (clearJob f slot)
-      (then-opens f ownChecks (h .opens)
-      ∙ all-clear ownChecks (facts-slot (sizesOf f) slot (h .slotted), (facts-full (runOf f (sizesOf f) slot) (h .full), tt)))
+      clear-taken (changeChecks f ++ heldChecks f slot) (clearJob f slot) (change-may f (heldChecks f slot) (h .may) ∙ facts-held (h .slotted) (h .full))
 
 -- ---- and so the job is ready
 
 module _ (f : List ℕ) where
   -- in the sizes that the file opens with
-  save-begins-at : (slot : ℕ) (scan about : List ℕ) → length about ≡ 54 → openOf f ≡ Opens (sizesOf f) → InIndex (sizesOf f) slot → Placed f scan
+  save-begins-at : (slot : ℕ) (scan about : List ℕ) → length about ≡ 54 → Changeable f (sizesOf f) → InIndex (sizesOf f) slot → Placed f scan
       → Begins (sizesOf f) f scan (saveJob f slot scan about)
   save-begins-at slot scan about k54 o i p =
-      save-ready (open-sound o) slot scan about k54 (i .low) (i .high) (keeps-lengths (p .keeps) .long) (placeFor f (length scan))
+      save-ready (o .sound) (o .current) slot scan about k54 (i .low) (i .high) (keeps-lengths (p .keeps) .long) (placeFor f (length scan))
       (place-free (sizesOf f) (length f) (runOf f (sizesOf f)) (recordsFor (sizesOf f) (length scan)) (p .found))
 
   pub save-begins : (slot : ℕ) (scan about : List ℕ) → length about ≡ 54 → SaveTaken f slot scan → Begins (sizesOf f) f scan (saveJob f slot scan about)
-  save-begins slot scan about k54 h = save-begins-at slot scan about k54 (h .opens) (h .slotted) (h .placed)
+  save-begins slot scan about k54 h = save-begins-at slot scan about k54 (h .may) (h .slotted) (h .placed)
 
   pub keep-begins : (scan about : List ℕ) → length about ≡ 54 → KeepTaken f scan → Begins (sizesOf f) f scan (saveJob f (keepSlot f) scan about)
-  keep-begins scan about k54 h = save-begins-at (keepSlot f) scan about k54 (h .opens) (keep-slotted f (h .slotted)) (h .placed)
+  keep-begins scan about k54 h = save-begins-at (keepSlot f) scan about k54 (h .may) (keep-slotted f (h .slotted)) (h .placed)
 
-  pub clear-begins : (slot : ℕ) → SlotTaken f slot → Begins (sizesOf f) f [] (clearJob f slot)
-  clear-begins slot h = clear-ready (open-sound (h .opens)) slot (h .slotted .low) (h .slotted .high) (h .full)
+  pub clear-begins : (slot : ℕ) → ClearTaken f slot → Begins (sizesOf f) f [] (clearJob f slot)
+  clear-begins slot h = clear-ready (h .may .sound) (h .may .current) slot (h .slotted .low) (h .slotted .high) (h .full)

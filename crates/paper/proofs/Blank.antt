@@ -24,6 +24,7 @@ use Rattle.paper.specs.Sizes.{sizesOf, versionOf, bootBytes, capacityOf,
 use Rattle.paper.specs.Index.{runOf, Sound}
 use Rattle.paper.specs.Store.{blankSizes, blankTests, blankChecks, blankOf, blankFile, freeAt, freePlace, Blankable}
 use Rattle.paper.proofs.Sizing.{head-long, home-end}
+use Rattle.paper.proofs.Forms.{current-first, current-last}
 use Rattle.paper.proofs.Opening.{shaped-facts, facts-shaped}
 use Rattle.paper.proofs.Encoding.{length-boot, sizes-back, version-back}
 use Rattle.paper.proofs.Free.{facts-free}
@@ -89,7 +90,7 @@ module _ (f : List ℕ) (n l m : ℕ) where
     empties s a b =
         let k = home-end z (h .shape) s a b in
         let q = h .shape in
-        omega (arith, word (homeOf z s) (omega arith) (omega arith), word (homeOf z s + 4) (omega arith) (omega arith))
+        omega (arith, current-first g z s refl, current-last g z s refl, word (homeOf z s) (omega arith) (omega arith), word (homeOf z s + 4) (omega arith) (omega arith))
 
     pub blank-length : length (write f 0 (pad (n * l) (bootBytes (blankSizes n l m)))) ≡ length f
     blank-length = len
@@ -100,9 +101,9 @@ module _ (f : List ℕ) (n l m : ℕ) where
         let r : Ranged z = record { shape = h .shape; records = omega arith; used = omega arith; known = omega arith } in
         record {
           booted = record {
-            reads = ap sizesOf split ∙ sizes-back z rest r (omega arith);
+            reads = ap sizesOf split ∙ sizes-back z rest r (omega arith) refl;
             long = rw len (omega (arith, h .fits, head-long z (h .shape)));
-            version = ap versionOf split ∙ version-back z rest;
+            version = omega (arith, ap versionOf split, version-back z rest);
             ranged = r;
             held = rw (len, add-zero) (h .fits);
           };

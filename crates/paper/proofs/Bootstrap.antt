@@ -58,7 +58,7 @@ laid-renewed {z} {run} L C =
       apart = λ s t r a b e. apart-all L s t r a (omega arith) (omega arith) (omega arith) (omega arith);
     }
 
-module _ {f : List ℕ} {z : Sizes} {d u : ℕ} (S : Sound f z) (C : Covers z (runOf f z) (length f) d u) (c : ℕ) (c32 : c < 4294967296) where
+module _ {f : List ℕ} {z : Sizes} {d u : ℕ} (S : Sound f z) (C : Covers z (runOf f z) (length f) d u) (v : z .version ≡ 1) (c : ℕ) (c32 : c < 4294967296) where
   abbrev y : Sizes
   y = renewed z d u c
 
@@ -101,9 +101,9 @@ module _ {f : List ℕ} {z : Sizes} {d u : ℕ} (S : Sound f z) (C : Covers z (r
   boot-renewed =
       record {
         booted = record {
-          reads = boot-reads f y ranged c32;
+          reads = boot-reads f y ranged c32 v;
           long = rw len (S .booted .long);
-          version = boot-version f y;
+          version = omega (arith, boot-version f y);
           ranged = ranged;
           held = rw len (room-in z (length f) (z .n + d) (C .room));
         };

@@ -122,7 +122,7 @@ module _ {f scan : List ℕ} {j : Job} {z : Sizes} (C : Confirms f scan j z) whe
     saved-run =
         let w = C .agreeing .within saves in
         let k = saved-count in
-        sym (entry-run f z (j .slot) m₁) ∙ ap statedBy saved-entry
+        sym (entry-run f z (j .slot) (C .agreeing .current) m₁) ∙ ap statedBy saved-entry
         ∙ entry-states z (runFrom (j .first) K) (j .about) (record { first-fits = omega arith; last-fits = omega arith })
 
     rows : part (startOf z (j .first)) (startOf z (j .first) + K * z .l) f ≡ pad (K * z .l) scan
@@ -143,7 +143,7 @@ module _ {f scan : List ℕ} {j : Job} {z : Sizes} (C : Confirms f scan j z) whe
         C .standing .entry ∙ ap (λ (b : Bool). cond b (entryBytes z (runFrom (j .first) (countOf z j)) (j .about)) (zeros (z .m))) clears
 
     pub cleared-run : runOf f z (j .slot) ≡ record { first = 0; last = 0 }
-    cleared-run = sym (entry-run f z (j .slot) m₁) ∙ ap statedBy cleared-entry ∙ zeros-state (z .m)
+    cleared-run = sym (entry-run f z (j .slot) (C .agreeing .current) m₁) ∙ ap statedBy cleared-entry ∙ zeros-state (z .m)
 
     pub cleared-shown : shownOf f z (j .slot) ≡ []
     cleared-shown =

@@ -17,6 +17,7 @@ use Rattle.paper.specs.declared.sizes.Run.{Run}
 use Rattle.paper.specs.Sizes.{sizesOf, versionOf, bootBytes, homeOf, Ranged}
 use Rattle.paper.specs.Index.{runOf, entryAt}
 use Rattle.paper.specs.Entry.{entryBytes}
+use Rattle.paper.proofs.Forms.{current-word, current-counter, current-type, current-first, current-last}
 
 -- ---- the bootstrap
 
@@ -25,30 +26,34 @@ unfolding bootBytes
 length-boot z = length-words (z .n ∷ z .d ∷ z .l ∷ z .m ∷ z .u ∷ z .counter ∷ z .kind ∷ 1 ∷ [])
 
 -- what the bytes state, whatever follows them
-pub sizes-back : (z : Sizes) (rest : List ℕ) → Ranged z → z .counter < 4294967296 → sizesOf (bootBytes z ++ rest) ≡ z
-unfolding bootBytes
-sizes-back z rest r c =
-    let vs : List ℕ = z .n ∷ z .d ∷ z .l ∷ z .m ∷ z .u ∷ z .counter ∷ z .kind ∷ 1 ∷ [] in
-    let s = r .shape in
-    rw (
-      words-at vs rest 0 (omega arith) (omega arith),
-      words-at vs rest 1 (omega arith) (omega arith),
-      words-at vs rest 2 (omega arith) (omega arith),
-      words-at vs rest 3 (omega arith) (omega arith),
-      words-at vs rest 4 (omega arith) (omega arith),
-      words-at vs rest 5 (omega arith) c,
-      words-at vs rest 6 (omega arith) (omega arith),
-    )
-
 pub version-back : (z : Sizes) (rest : List ℕ) → versionOf (bootBytes z ++ rest) ≡ 1
 unfolding bootBytes
 version-back z rest = words-at (z .n ∷ z .d ∷ z .l ∷ z .m ∷ z .u ∷ z .counter ∷ z .kind ∷ 1 ∷ []) rest 7 (omega arith) (omega arith)
 
+pub sizes-back : (z : Sizes) (rest : List ℕ) → Ranged z → z .counter < 4294967296 → z .version ≡ 1 → sizesOf (bootBytes z ++ rest) ≡ z
+unfolding bootBytes
+sizes-back z rest r c v =
+    let g : List ℕ = bootBytes z ++ rest in
+    let e = version-back z rest in
+    let vs : List ℕ = z .n ∷ z .d ∷ z .l ∷ z .m ∷ z .u ∷ z .counter ∷ z .kind ∷ 1 ∷ [] in
+    let s = r .shape in
+    rw (
+      current-word _ g 0 0 e ∙ words-at vs rest 0 (omega arith) (omega arith),
+      current-word _ g 0 1 e ∙ words-at vs rest 1 (omega arith) (omega arith),
+      current-word _ g 0 2 e ∙ words-at vs rest 2 (omega arith) (omega arith),
+      current-word _ g 0 3 e ∙ words-at vs rest 3 (omega arith) (omega arith),
+      current-word _ g 0 4 e ∙ words-at vs rest 4 (omega arith) (omega arith),
+      current-counter g e ∙ words-at vs rest 5 (omega arith) c,
+      current-type g e ∙ words-at vs rest 6 (omega arith) (omega arith),
+      e,
+      ← v,
+    )
+
 -- the same, of a file whose record 1 was written
 module _ (f : List ℕ) (z : Sizes) where
-  pub boot-reads : Ranged z → z .counter < 4294967296 → sizesOf (write f 0 (bootBytes z)) ≡ z
+  pub boot-reads : Ranged z → z .counter < 4294967296 → z .version ≡ 1 → sizesOf (write f 0 (bootBytes z)) ≡ z
   unfolding write
-  boot-reads r c = sizes-back z (drop (0 + length (bootBytes z)) f) r c
+  boot-reads r c v = sizes-back z (drop (0 + length (bootBytes z)) f) r c v
 
   pub boot-version : versionOf (write f 0 (bootBytes z)) ≡ 1
   unfolding write
@@ -95,22 +100,24 @@ module _ (z : Sizes) (r : Run) (about : List ℕ) where
 pub zeros-state : (m : ℕ) → statedBy (zeros m) ≡ record { first = 0; last = 0 }
 zeros-state m = rw (number-zeros big 4 m 0, number-zeros big 4 m 4)
 
--- the run of a slot is the one that its entry's bytes state
-pub entry-run : (f : List ℕ) (z : Sizes) (s : ℕ) → 8 ≤ z .m → statedBy (entryAt f z s) ≡ runOf f z s
-entry-run f z s h =
+-- the run of a slot is the one that its entry's bytes state, in the current form
+pub entry-run : (f : List ℕ) (z : Sizes) (s : ℕ) → z .version ≡ 1 → 8 ≤ z .m → statedBy (entryAt f z s) ≡ runOf f z s
+entry-run f z s v h =
     let d : homeOf z s + z .m - homeOf z s ≡ z .m = omega arith in
     rw (
       number-part big 4 (homeOf z s) (homeOf z s + z .m) f 0 (omega arith),
       number-part big 4 (homeOf z s) (homeOf z s + z .m) f 4 (omega arith),
       add-zero,
+      current-first f z s v,
+      current-last f z s v,
     )
 
 -- an entry written at its slot's home
 module _ (f : List ℕ) (z : Sizes) (s : ℕ) (e : List ℕ) (fits : homeOf z s ≤ length f) (long : 8 ≤ length e) where
-  pub run-back : runOf (write f (homeOf z s) e) z s ≡ statedBy e
-  run-back =
+  pub run-back : z .version ≡ 1 → runOf (write f (homeOf z s) e) z s ≡ statedBy e
+  run-back v =
       let a : be32 (write f (homeOf z s) e) (homeOf z s) ≡ be32 e 0 = rw add-zero at (number-in big 4 f (homeOf z s) e 0 fits (omega arith)) in
-      rw (a, number-in big 4 f (homeOf z s) e 4 fits (omega arith))
+      rw (current-first (write f (homeOf z s) e) z s v ∙ a, current-last (write f (homeOf z s) e) z s v ∙ number-in big 4 f (homeOf z s) e 4 fits (omega arith))
 
   pub entry-back : length e ≡ z .m → entryAt (write f (homeOf z s) e) z s ≡ e
   entry-back h = ap (λ (m : ℕ). part (homeOf z s) (homeOf z s + m) (write f (homeOf z s) e)) (sym h) ∙ part-in f (homeOf z s) e fits

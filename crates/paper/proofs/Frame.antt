@@ -5,16 +5,15 @@ use mathlib.Core.List.{List}
 use mathlib.Core.Logic.{⊎-elim}
 use native.Mathlib.Omega.{arith}
 use lib.ListN.{length}
-use Rattle.lent.specs.Number.{big, be32}
 use Rattle.lent.specs.Part.{part, Alike}
 use Rattle.lent.proofs.Lists.{lt-or-ge}
-use Rattle.lent.proofs.Numbers.{number-same}
 use Rattle.lent.proofs.Parts.{part-same, alike-within}
 use Rattle.paper.specs.declared.sizes.Sizes.{Sizes}
 use Rattle.paper.specs.declared.sizes.Run.{Run}
 use Rattle.paper.specs.Sizes.{capacityOf, startOf, homeOf}
 use Rattle.paper.specs.Index.{runOf, shownOf, entryAt, Laid, Booted, Sound}
 use Rattle.paper.proofs.Sizing.{head-long, home-end}
+use Rattle.paper.proofs.Forms.{word-same, version-same, sizes-same}
 
 -- ---- what rests on which bytes
 
@@ -31,21 +30,10 @@ module _ (f g : List ℕ) where
   -- the bootstrap is read from the first 32 bytes
   pub booted-same : {z : Sizes} → length g ≡ length f → Alike f g 0 32 → Booted f z → Booted g z
   booted-same {z} e h b =
-      let word : (o : ℕ) → o + 4 ≤ 32 → be32 g o ≡ be32 f o = λ o k. number-same big 4 f g 0 32 o h (omega arith) k in
       record {
-        reads =
-            rw (
-              word 0 (omega arith),
-              word 4 (omega arith),
-              word 8 (omega arith),
-              word 12 (omega arith),
-              word 16 (omega arith),
-              word 20 (omega arith),
-              word 24 (omega arith),
-            )
-            (b .reads);
+        reads = sizes-same f g h ∙ b .reads;
         long = rw e (b .long);
-        version = word 28 (omega arith) ∙ b .version;
+        version = omega (arith, version-same f g h, b .version);
         ranged = b .ranged;
         held = rw e (b .held);
       }
@@ -54,8 +42,8 @@ module _ (f g : List ℕ) where
   pub run-same : (z : Sizes) (s : ℕ) → Alike f g (homeOf z s) (homeOf z s + 8) → runOf g z s ≡ runOf f z s
   run-same z s h =
       rw (
-        number-same big 4 f g (homeOf z s) (homeOf z s + 8) (homeOf z s) h (omega arith) (omega arith),
-        number-same big 4 f g (homeOf z s) (homeOf z s + 8) (homeOf z s + 4) h (omega arith) (omega arith),
+        word-same f g (homeOf z s) (homeOf z s + 8) h (z .version) (homeOf z s) 0 (omega arith) (omega arith),
+        word-same f g (homeOf z s) (homeOf z s + 8) h (z .version) (homeOf z s) 1 (omega arith) (omega arith),
       )
 
   -- and what a slot shows from its run and the bytes of its records

@@ -50,7 +50,7 @@ laid-changed {z} {run} {new} s u h lies alone same L =
         (same-or t s)
 
 -- the entry's bytes e, written to slot s, state a run that is empty or in range and that no other slot has a record of
-module _ {f : List ℕ} {z : Sizes} (S : Sound f z) (s : ℕ) (s₁ : 1 ≤ s) (s≤u : s ≤ z .u) (e : List ℕ) (em : length e ≡ z .m)
+module _ {f : List ℕ} {z : Sizes} (S : Sound f z) (v : z .version ≡ 1) (s : ℕ) (s₁ : 1 ≤ s) (s≤u : s ≤ z .u) (e : List ℕ) (em : length e ≡ z .m)
     (lies : Lies z (statedBy e)) (alone : Alone z (runOf f z) s (statedBy e)) where
   abbrev g : List ℕ
   g = write f (homeOf z s) e
@@ -82,7 +82,7 @@ module _ {f : List ℕ} {z : Sizes} (S : Sound f z) (s : ℕ) (s₁ : 1 ≤ s) (
       (lies-past (S .booted) h i lo hi) (omega (arith, lies-end (S .booted) h))
 
   pub run-new : runOf (write f (homeOf z s) e) z s ≡ statedBy e
-  run-new = run-back f z s e starts (omega (arith, S .booted .ranged .shape .m-low))
+  run-new = run-back f z s e starts (omega (arith, S .booted .ranged .shape .m-low)) v
 
   pub run-other : (t : ℕ) → 1 ≤ t → t ≢ s → runOf (write f (homeOf z s) e) z t ≡ runOf f z t
   run-other t a ne = run-same f g z t (other t 8 a ne (omega (arith, S .booted .ranged .shape .m-low)))

@@ -4,7 +4,7 @@ use native.Mathlib.Omega.{arith}
 use borrow.Author.Tests.{le-leb, lt-leb}
 use lib.Ieee.{Float, ofBits}
 use lib.ListN.{length}
-use Rattle.lent.specs.Number.{number, value, digit, bytes, words, int16}
+use Rattle.lent.specs.Number.{number, value, digit, bytes, words, int16, widened}
 use Rattle.lent.specs.Lists.{table, every, those}
 use Rattle.lent.specs.Least.{least}
 use Rattle.lent.specs.Part.{placeIn}
@@ -12,15 +12,15 @@ use Rattle.lent.specs.Write.{write, zeros, pad}
 use Rattle.lent.specs.Same.{same}
 use Rattle.whole.specs.Number.{exactly, wholeFloat, wholeOf}
 use Rattle.whole.specs.Length.{lengthOf, isWhole, sizeOf}
-use Rattle.paper.specs.Sizes.{bootBytes, shaped, inRange}
+use Rattle.paper.specs.Sizes.{wordAt, counterOf, typeOf, bootBytes, shaped, inRange}
 use Rattle.paper.specs.Index.{empty, inData, badAt, aboveAt, shares, sharer, sharedAt, indexOf, openOf, slotsOf}
-use Rattle.paper.specs.Entry.{kindOf, fieldsOf, entryBytes}
+use Rattle.paper.specs.Entry.{kindOf, magicOf, positionOf, versionOne, fieldsOf, entryBytes}
 use Rattle.paper.specs.Scan.{classesOf, startsOf, rule1, rule2, rule3, rule4, rule5, rule6, rising, ruledOf, classAt, classEnd, classIn, classOf, dataOf}
 use Rattle.paper.specs.Look.{linesOf, listedOf, listedOut, foundOf, showOf, readOf}
-use Rattle.paper.specs.Store.{freeAt, freePlace, emptySlot, dataFrom, writesOf}
+use Rattle.paper.specs.Store.{freeAt, freePlace, emptySlot, saveOf, keepOf, clearOf, dataFrom, writesOf}
 use Rattle.paper.specs.Step.{agrees, stands}
 use Rattle.paper.specs.Lister.{digits, linesText, listText, printed}
-use Rattle.paper.specs.Known.{Refusals, Answers, Boot, Entries, Kinds, scan13, scan15, Scans, Rules, Index, Places, file, File, Parts, Agrees, Stands, Renewed, Zeros, Prints}
+use Rattle.paper.specs.Known.{Refusals, Answers, Boot, OldBoot, Entries, Kinds, scan13, scan15, Scans, Rules, Index, Places, file, File, oldFile, OldFile, Parts, Agrees, Stands, Renewed, Zeros, Prints}
 
 pub refusals : Refusals
 refusals =
@@ -42,6 +42,7 @@ refusals =
       differs = refl;
       bad-blank = refl;
       too-small = refl;
+      not-version-one = refl;
     }
 
 pub answers : Answers
@@ -66,7 +67,7 @@ answers =
     }
 
 pub boot : Boot
-unfolding number value digit bytes words table bootBytes
+unfolding number value digit bytes words table wordAt counterOf typeOf bootBytes
 boot =
     record {
       reads = refl;
@@ -74,11 +75,29 @@ boot =
       written = refl;
     }
 
+pub oldBoots : OldBoot
+unfolding number value widened wordAt counterOf typeOf
+oldBoots =
+    record {
+      reads = refl;
+      all-ones = refl;
+      greatest = refl;
+      least = refl;
+      current = refl;
+    }
+
 pub entries : Entries
-unfolding number value digit bytes words table int16 zeros kindOf fieldsOf entryBytes
+unfolding number value digit bytes words table int16 widened zeros wordAt kindOf magicOf positionOf versionOne fieldsOf entryBytes
 entries =
     record {
       fields = refl;
+      old-fields = refl;
+      no-magic = refl;
+      magic-1 = refl;
+      magic-2 = refl;
+      magic-3 = refl;
+      magic-258 = refl;
+      current-one = refl;
       written = refl;
       greatest = refl;
       least = refl;
@@ -117,7 +136,7 @@ scans =
     }
 
 pub files : File
-unfolding number value int16 table every those least write exactly wholeFloat wholeOf ofBits lengthOf isWhole sizeOf shaped inRange empty inData badAt aboveAt shares sharer sharedAt openOf slotsOf kindOf fieldsOf classesOf startsOf rule1 rule2 rule3 rule4 rule5 rule6 rising ruledOf linesOf listedOf listedOut foundOf showOf readOf scan13 scan15 file
+unfolding number value int16 table every those least write exactly wholeFloat wholeOf ofBits lengthOf isWhole sizeOf wordAt counterOf typeOf shaped inRange empty inData badAt aboveAt shares sharer sharedAt openOf slotsOf kindOf versionOne fieldsOf classesOf startsOf rule1 rule2 rule3 rule4 rule5 rule6 rising ruledOf linesOf listedOf listedOut foundOf showOf readOf scan13 scan15 file
 files =
     record {
       long = refl;
@@ -208,7 +227,7 @@ places =
     }
 
 pub agreeing : Agrees
-unfolding number value same shaped inRange table every dataFrom writesOf bootBytes words bytes digit zeros pad entryBytes write agrees scan13 scan15 file
+unfolding number value same wordAt counterOf typeOf shaped inRange table every dataFrom writesOf bootBytes words bytes digit zeros pad entryBytes write agrees scan13 scan15 file
 agreeing =
     record {
       yes = refl;
@@ -227,6 +246,35 @@ agreeing =
       too-many = refl;
       clear = refl;
       clear-too-many = refl;
+    }
+
+pub oldFiles : OldFile
+unfolding number value int16 widened same table every those least write exactly wholeFloat wholeOf ofBits lengthOf isWhole sizeOf wordAt counterOf typeOf shaped inRange empty inData badAt aboveAt shares sharer sharedAt openOf slotsOf kindOf magicOf positionOf versionOne fieldsOf classesOf startsOf rule1 rule2 rule3 rule4 rule5 rule6 rising ruledOf linesOf listedOf listedOut foundOf showOf readOf saveOf keepOf clearOf agrees scan13 scan15 oldFile
+oldFiles =
+    record {
+      long = refl;
+      opens = refl;
+      lists = refl;
+      lines = refl;
+      show-1 = refl;
+      show-2 = refl;
+      read-1 = refl;
+      read-2 = refl;
+      read-3 = refl;
+      read-4 = refl;
+      eighteen-first = refl;
+      magic = refl;
+      position = refl;
+      minus-d = refl;
+      minus-first = refl;
+      minus-above = refl;
+      shared = refl;
+      no-save = refl;
+      no-keep = refl;
+      no-clear = refl;
+      before-4 = refl;
+      after-1 = refl;
+      no-step = refl;
     }
 
 pub standing : Stands
@@ -274,7 +322,7 @@ zeroed =
     }
 
 pub prints : Prints
-unfolding number value those least shaped inRange empty inData badAt aboveAt shares sharer sharedAt openOf slotsOf digits linesText listText printed scan13 scan15 file
+unfolding number value those least wordAt counterOf typeOf shaped inRange empty inData badAt aboveAt shares sharer sharedAt openOf slotsOf digits linesText listText printed scan13 scan15 file
 prints =
     record {
       zero = refl;

@@ -1,4 +1,5 @@
 pub mod Sizing
+pub mod Forms
 pub mod Writes
 pub mod Opening
 pub mod Agreement

@@ -6,19 +6,22 @@ use mathlib.Core.List.{List, _∷_, _++_, List·Memᴰ}
 use mathlib.Core.Logic.{_≢_, ⊎-elim}
 use native.Mathlib.Omega.{arith}
 use native.Mathlib.Nat.{mul-le-mul-right}
+use lib.Dec.{ltb, eqb}
 use lib.ListN.{length}
 use borrow.Author.Tests.{ltb-true, ltb-false, leb-true, eqb-true, eqb-false, lt-ltb, le-ltb, le-leb, eq-eqb, ne-eqb, not-true, not-false}
 use Rattle.lent.specs.Lists.{those}
-use Rattle.lent.specs.Checks.{Check, clear, fires, fired, judge}
+use Rattle.lent.specs.Checks.{Check, clear, fires, fired, answer, judge}
 use Rattle.lent.proofs.Lists.{All, all-true, true-all, true≢false, not-so, either, lt-or-ge, those-mem, mem-those, those-more}
 use Rattle.lent.proofs.Leasts.{least-none, none-least, none-test, test-none}
-use Rattle.lent.proofs.Checks.{Clear, clear-all, all-clear, clear-append, fires-append, append-clear, judge-clear, judge-fires, judge-passed, judge-refused, judge-append}
+use Rattle.lent.proofs.Checks.{Clear, clear-cons, cons-clear, clear-all, all-clear, clear-append, fires-append, append-clear, judge-clear, judge-fires, judge-passed, judge-refused, judge-append}
 use Rattle.paper.specs.declared.sizes.Sizes.{Sizes}
 use Rattle.paper.specs.declared.sizes.Run.{Run}
 use Rattle.paper.specs.declared.refusal.Refusal.{Refusal}
+use Rattle.paper.specs.declared.refusal.Refusal.the-variants.{TooShort, OldForm}
+use Rattle.paper.specs.declared.answer.Opened.{Opened}
 use Rattle.paper.specs.declared.answer.Opened.the-variants.{Opens, Refused}
-use Rattle.paper.specs.Sizes.{sizesOf, versionOf, capacityOf, startOf, shapeTests, shaped, countTests, inRange, bootChecks, Shaped, Ranged}
-use Rattle.paper.specs.Index.{runOf, empty, Full, dataTests, inData, badTests, badAt, aboveTests, aboveAt, shareTests, shares, sharer, sharedAt, indexChecks, openChecks, bootOf, indexOf, openOf, slotsOf, Lies, Laid, Booted, Sound}
+use Rattle.paper.specs.Sizes.{sizesOf, versionOf, capacityOf, startOf, shapeTests, shaped, countTests, inRange, tooShort, oldForm, wordChecks, bootChecks, changeBoot, Shaped, Ranged}
+use Rattle.paper.specs.Index.{runOf, empty, Full, dataTests, inData, badTests, badAt, aboveTests, aboveAt, shareTests, shares, sharer, sharedAt, indexChecks, openChecks, changeChecks, bootOf, indexOf, openOf, changeBootOf, changeOf, slotsOf, Lies, Laid, Booted, Sound, Changeable}
 
 -- ---- the sizes
 
@@ -202,26 +205,27 @@ module _ (cs : List (Check Refusal)) (y : Sizes) where
   pub refused-fires : (r : Refusal) → judge Refused cs (Opens y) ≡ Refused r → fired cs ≡ fires r
   refused-fires r e = judge-refused Refused cs (Opens y) r one (λ q. never r y (sym q)) e
 
+  -- and what checks after these come to
+  refused-then : {r : Refusal} (ds : List (Check Refusal)) → judge Refused cs (Opens y) ≡ Refused r → fired (cs ++ ds) ≡ fires r
+  refused-then {r} ds e = fires-append cs ds r (refused-fires r e)
+
+  opens-then : {z : Sizes} (ds : List (Check Refusal)) → judge Refused cs (Opens y) ≡ Opens z → fired (cs ++ ds) ≡ fired ds
+  opens-then {z} ds e = clear-append cs ds (opens-clear z e .0)
+
 boot-facts : (f : List ℕ) → Clear (bootChecks f) → Booted f (sizesOf f)
 boot-facts f c =
     record {
       reads = refl;
       long = ltb-false _ _ (c .0);
-      version = eqb-true _ _ (not-false _ (c .1 .1 .0));
-      ranged = range-facts (sizesOf f) (not-false _ (c .1 .1 .1 .0));
-      held = ltb-false _ _ (c .1 .1 .1 .1 .0);
+      version = ltb-false _ _ (c .1 .0);
+      ranged = range-facts (sizesOf f) (not-false _ (c .1 .1 .0));
+      held = ltb-false _ _ (c .1 .1 .1 .0);
     }
 
 facts-boot : (f : List ℕ) → Booted f (sizesOf f) → Clear (bootChecks f)
 facts-boot f b = (
   le-ltb _ _ (b .long),
-  (
-    ne-eqb (versionOf f) 0 (λ e. omega (arith, b .version)),
-    (
-      ap not (eq-eqb _ _ (b .version)),
-      (ap not (facts-range (sizesOf f) (b .ranged)), (le-ltb _ _ (b .held), tt)),
-    ),
-  ),
+  (le-ltb _ _ (b .version), (ap not (facts-range (sizesOf f) (b .ranged)), (le-ltb _ _ (b .held), tt))),
 )
 
 module _ {f : List ℕ} {z : Sizes} where
@@ -283,19 +287,30 @@ index-same y z run e = opens-clear (indexChecks y run) y z e .1
 
 -- ---- of a file: the two in a row
 
-open-both : (f : List ℕ) → openOf f ≡ judge Refused (bootChecks f) (indexOf (sizesOf f) (runOf f (sizesOf f)))
-unfolding openOf indexOf
-open-both f = judge-append Refused (bootChecks f) (indexChecks (sizesOf f) (runOf f (sizesOf f))) (Opens (sizesOf f))
+-- whatever is asked of the bootstrap
+module _ (f : List ℕ) (bs : List (Check Refusal)) where
+  abbrev whole : Opened
+  whole = judge Refused (bs ++ indexChecks (sizesOf f) (runOf f (sizesOf f))) (Opens (sizesOf f))
+
+  both : whole ≡ judge Refused bs (indexOf (sizesOf f) (runOf f (sizesOf f)))
+  unfolding indexOf
+  both = judge-append Refused bs (indexChecks (sizesOf f) (runOf f (sizesOf f))) (Opens (sizesOf f))
+
+  both-refused : {r : Refusal} → judge Refused bs (Opens (sizesOf f)) ≡ Refused r → whole ≡ Refused r
+  both-refused {r} e = both ∙ judge-fires Refused bs _ r (refused-fires bs (sizesOf f) r e)
+
+  both-index : {z : Sizes} → judge Refused bs (Opens (sizesOf f)) ≡ Opens z → whole ≡ indexOf z (runOf f z)
+  both-index {z} e =
+      let p = opens-clear bs (sizesOf f) z e in
+      both ∙ judge-clear Refused bs _ (p .0) ∙ subst (λ (y : Sizes). indexOf (sizesOf f) (runOf f (sizesOf f)) ≡ indexOf y (runOf f y)) (p .1) refl
 
 pub open-refused : (f : List ℕ) {r : Refusal} → bootOf f ≡ Refused r → openOf f ≡ Refused r
-unfolding bootOf
-open-refused f {r} e = open-both f ∙ judge-fires Refused (bootChecks f) _ r (refused-fires (bootChecks f) (sizesOf f) r e)
+unfolding bootOf openOf
+open-refused f e = both-refused f (bootChecks f) e
 
 pub open-index : (f : List ℕ) {z : Sizes} → bootOf f ≡ Opens z → openOf f ≡ indexOf z (runOf f z)
-unfolding bootOf
-open-index f {z} e =
-    let p = opens-clear (bootChecks f) (sizesOf f) z e in
-    open-both f ∙ judge-clear Refused (bootChecks f) _ (p .0) ∙ subst (λ (y : Sizes). indexOf (sizesOf f) (runOf f (sizesOf f)) ≡ indexOf y (runOf f y)) (p .1) refl
+unfolding bootOf openOf
+open-index f e = both-index f (bootChecks f) e
 
 -- what the checks of a file came to
 module _ (f : List ℕ) where
@@ -317,10 +332,12 @@ module _ (f : List ℕ) where
 
   -- a call that has checks of its own after these
   pub then-refused : {r : Refusal} (ds : List (Check Refusal)) → openOf f ≡ Refused r → fired (openChecks f ++ ds) ≡ fires r
-  then-refused {r} ds e = fires-append (openChecks f) ds r (open-fires e)
+  unfolding openOf
+  then-refused ds e = refused-then (openChecks f) (sizesOf f) ds e
 
   pub then-opens : {z : Sizes} (ds : List (Check Refusal)) → openOf f ≡ Opens z → fired (openChecks f ++ ds) ≡ fired ds
-  then-opens ds e = clear-append (openChecks f) ds (open-clear e)
+  unfolding openOf
+  then-opens ds e = opens-then (openChecks f) (sizesOf f) ds e
 
   pub then-clear : (ds : List (Check Refusal)) → fired (openChecks f ++ ds) ≡ clear → (openOf f ≡ Opens (sizesOf f)) × (fired ds ≡ clear)
   then-clear ds e = let p = append-clear (openChecks f) ds e in (clear-open (p .0), p .1)
@@ -334,6 +351,102 @@ module _ {f : List ℕ} {z : Sizes} where
 
   pub sound-open : Sound f z → openOf f ≡ Opens z
   sound-open s = open-index f (sound-boot (s .booted)) ∙ laid-index (s .laid)
+
+-- ---- may be changed
+
+module _ (f : List ℕ) where
+  -- what both ask after 1 and 2
+  abbrev restChecks : List (Check Refusal)
+  restChecks = wordChecks f ++ indexChecks (sizesOf f) (runOf f (sizesOf f))
+
+  -- an old file is refused with 2, once it is long enough to tell
+  pub change-old : (ds : List (Check Refusal)) → 512 ≤ length f → versionOf f ≡ 0 → fired (changeChecks f ++ ds) ≡ fires OldForm
+  change-old ds a v = rw (le-ltb _ _ a, eq-eqb _ _ v)
+
+  -- of any other file a change asks what a look asks
+  change-other : (cs : List (Check Refusal)) → (512 ≤ length f → versionOf f ≡ 0 → ⊥) → fired (tooShort f ∷ oldForm f ∷ cs) ≡ fired (tooShort f ∷ cs)
+  change-other cs h =
+      ⊎-elim (λ (a : length f < 512). rw (lt-ltb _ _ a)) (λ (a : 512 ≤ length f). rw (le-ltb _ _ a, ne-eqb (versionOf f) 0 (h a))) (lt-or-ge (length f) 512)
+
+  pub change-look : (ds : List (Check Refusal)) → (512 ≤ length f → versionOf f ≡ 0 → ⊥) → fired (changeChecks f ++ ds) ≡ fired (openChecks f ++ ds)
+  change-look ds h = change-other (restChecks ++ ds) h
+
+  -- so that it is judged as for a look, and its bootstrap too
+  pub old-boot : 512 ≤ length f → versionOf f ≡ 0 → changeBootOf f ≡ Refused OldForm
+  unfolding changeBootOf
+  old-boot a v = judge-fires Refused (changeBoot f) (Opens (sizesOf f)) OldForm (rw (le-ltb _ _ a, eq-eqb _ _ v))
+
+  pub other-boot : (512 ≤ length f → versionOf f ≡ 0 → ⊥) → changeBootOf f ≡ bootOf f
+  unfolding changeBootOf bootOf
+  other-boot h = ap (answer Refused (Opens (sizesOf f))) (change-other (wordChecks f) h)
+
+  pub old-file : 512 ≤ length f → versionOf f ≡ 0 → changeOf f ≡ Refused OldForm
+  unfolding changeOf
+  old-file a v = judge-fires Refused (changeChecks f) (Opens (sizesOf f)) OldForm (rw (le-ltb _ _ a, eq-eqb _ _ v))
+
+  pub other-file : (512 ≤ length f → versionOf f ≡ 0 → ⊥) → changeOf f ≡ openOf f
+  unfolding changeOf openOf
+  other-file h = ap (answer Refused (Opens (sizesOf f))) (change-other restChecks h)
+
+  -- what the judgement came to
+  pub change-reads : {z : Sizes} → changeOf f ≡ Opens z → sizesOf f ≡ z
+  unfolding changeOf
+  change-reads {z} e = opens-clear (changeChecks f) (sizesOf f) z e .1
+
+  pub change-then-refused : {r : Refusal} (ds : List (Check Refusal)) → changeOf f ≡ Refused r → fired (changeChecks f ++ ds) ≡ fires r
+  unfolding changeOf
+  change-then-refused ds e = refused-then (changeChecks f) (sizesOf f) ds e
+
+  pub change-then-opens : {z : Sizes} (ds : List (Check Refusal)) → changeOf f ≡ Opens z → fired (changeChecks f ++ ds) ≡ fired ds
+  unfolding changeOf
+  change-then-opens ds e = opens-then (changeChecks f) (sizesOf f) ds e
+
+  pub change-refused : {r : Refusal} → changeBootOf f ≡ Refused r → changeOf f ≡ Refused r
+  unfolding changeBootOf changeOf
+  change-refused e = both-refused f (changeBoot f) e
+
+  pub change-index : {z : Sizes} → changeBootOf f ≡ Opens z → changeOf f ≡ indexOf z (runOf f z)
+  unfolding changeBootOf changeOf
+  change-index e = both-index f (changeBoot f) e
+
+  -- it may be changed where it opens and is not old
+  change-clear : (cs : List (Check Refusal)) → fired (tooShort f ∷ oldForm f ∷ cs) ≡ clear → (fired (tooShort f ∷ cs) ≡ clear) × (versionOf f ≢ 0)
+  change-clear cs e =
+      let p = clear-cons (ltb (length f) 512) TooShort (oldForm f ∷ cs) e in
+      let q = clear-cons (eqb (versionOf f) 0) OldForm cs (p .1) in
+      (cons-clear (ltb (length f) 512) TooShort cs (p .0) (q .1), eqb-false _ _ (q .0))
+
+  pub boot-changes : {z : Sizes} → changeBootOf f ≡ Opens z → Booted f z
+  unfolding changeBootOf
+  boot-changes {z} e =
+      let p = opens-clear (changeBoot f) (sizesOf f) z e in
+      subst (λ (y : Sizes). Booted f y) (p .1) (boot-facts f (clear-all (bootChecks f) (change-clear (wordChecks f) (p .0) .0)))
+
+  -- the bootstrap alone
+  pub change-booted : fired (changeBoot f) ≡ clear → Booted f (sizesOf f) × (versionOf f ≡ 1)
+  change-booted e =
+      let p = change-clear (wordChecks f) e in
+      let b = boot-facts f (clear-all (bootChecks f) (p .0)) in
+      (b, omega (arith, b .version, p .1))
+
+  pub booted-change : {z : Sizes} → Booted f z → versionOf f ≡ 1 → fired (changeBoot f) ≡ clear
+  booted-change b v = change-other (wordChecks f) (λ a e. omega arith) ∙ booted-clear b
+
+  pub change-sound : {z : Sizes} → changeOf f ≡ Opens z → Sound f z
+  unfolding changeOf
+  change-sound {z} e =
+      let p = opens-clear (changeChecks f) (sizesOf f) z e in
+      subst (λ (y : Sizes). Sound f y) (p .1) (open-sound (clear-open f (change-clear restChecks (p .0) .0)))
+
+  pub may-change : (ds : List (Check Refusal)) → fired (changeChecks f ++ ds) ≡ clear → Changeable f (sizesOf f) × (fired ds ≡ clear)
+  may-change ds e =
+      let p = change-clear (restChecks ++ ds) e in
+      let q = then-clear f ds (p .0) in
+      let s = open-sound (q .0) in
+      (record { sound = s; current = omega (arith, s .booted .version, p .1) }, q .1)
+
+  pub change-may : (ds : List (Check Refusal)) → Changeable f (sizesOf f) → fired (changeChecks f ++ ds) ≡ fired ds
+  change-may ds c = change-look ds (λ a v. omega (arith, c .current)) ∙ then-opens f ds (sound-open (c .sound))
 
 -- ---- up to U and up to capacity
 

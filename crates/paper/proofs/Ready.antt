@@ -32,6 +32,7 @@ use Rattle.paper.proofs.IndexLaw.{Alone, index-sound, index-length, ind
 -- other slot has, which then hold the padded scan
 pub record Ready (z : Sizes) (f scan : List ℕ) (j : Job) : Type 0 where
   pub sound : Sound f z
+  pub current : z .version ≡ 1
   pub low : 1 ≤ j .slot
   pub used : j .slot ≤ sizesAfter z j .u
   pub free : Every (Free z f) (dataWrites z j scan)
@@ -105,16 +106,16 @@ module _ {z : Sizes} {f scan : List ℕ} {j : Job} (Y : Ready z f scan j) where
   counts = mod-lt (z .counter + 1) (omega arith)
 
   pub boot-sound : Sound (fileAt z f scan j (suc (countOf z j))) (sizesAfter z j)
-  boot-sound = rw boot-file (boot-renewed full covers (z′ .counter) counts)
+  boot-sound = rw boot-file (boot-renewed full covers (Y .current) (z′ .counter) counts)
 
   pub boot-keeps : Kept z f (fileAt z f scan j (suc (countOf z j)))
-  boot-keeps = kept-then (rows-kept K (omega arith)) (rw boot-file (boot-kept full covers (z′ .counter) counts))
+  boot-keeps = kept-then (rows-kept K (omega arith)) (rw boot-file (boot-kept full covers (Y .current) (z′ .counter) counts))
 
   pub boot-len : length (fileAt z f scan j (suc (countOf z j))) ≡ length f
-  boot-len = rw boot-file (boot-length full covers (z′ .counter) counts ∙ rows-frame K (omega arith) .len)
+  boot-len = rw boot-file (boot-length full covers (Y .current) (z′ .counter) counts ∙ rows-frame K (omega arith) .len)
 
   pub boot-is : take 32 (fileAt z f scan j (suc (countOf z j))) ≡ bootBytes (sizesAfter z j)
-  boot-is = rw boot-file (boot-there full covers (z′ .counter) counts)
+  boot-is = rw boot-file (boot-there full covers (Y .current) (z′ .counter) counts)
 
   -- ---- the slot's entry
 
@@ -131,23 +132,23 @@ module _ {z : Sizes} {f scan : List ℕ} {j : Job} (Y : Ready z f scan j) where
   alone t q a b ne n x y = subst (λ (r : Run). r .first ≤ q → q ≤ r .last → ⊥) (sym (boot-keeps .runs t a b)) (Y .alone t q a b ne n x y)
 
   pub end-sound : Sound (fileAt z f scan j (suc (suc (countOf z j)))) (sizesAfter z j)
-  end-sound = rw entry-file (index-sound boot-sound (j .slot) (Y .low) (Y .used) E (Y .entry) (Y .lies) alone)
+  end-sound = rw entry-file (index-sound boot-sound (Y .current) (j .slot) (Y .low) (Y .used) E (Y .entry) (Y .lies) alone)
 
   pub end-len : length (fileAt z f scan j (suc (suc (countOf z j)))) ≡ length f
-  end-len = rw entry-file (index-length boot-sound (j .slot) (Y .low) (Y .used) E (Y .entry) (Y .lies) alone ∙ boot-len)
+  end-len = rw entry-file (index-length boot-sound (Y .current) (j .slot) (Y .low) (Y .used) E (Y .entry) (Y .lies) alone ∙ boot-len)
 
   pub end-is : take 32 (fileAt z f scan j (suc (suc (countOf z j)))) ≡ bootBytes (sizesAfter z j)
   end-is =
       part-same G H 0 32 (end-len ∙ sym boot-len)
-      (subst (λ (x : List ℕ). Alike G x 0 32) (sym entry-file) (index-head boot-sound (j .slot) (Y .low) (Y .used) E (Y .entry) (Y .lies) alone))
+      (subst (λ (x : List ℕ). Alike G x 0 32) (sym entry-file) (index-head boot-sound (Y .current) (j .slot) (Y .low) (Y .used) E (Y .entry) (Y .lies) alone))
       ∙ boot-is
 
   -- the job's slot has the entry, and shows the padded scan
   pub end-run : runOf (fileAt z f scan j (suc (suc (countOf z j)))) z (j .slot) ≡ statedBy (entryAfter z j)
-  end-run = rw entry-file (run-new boot-sound (j .slot) (Y .low) (Y .used) E (Y .entry) (Y .lies) alone)
+  end-run = rw entry-file (run-new boot-sound (Y .current) (j .slot) (Y .low) (Y .used) E (Y .entry) (Y .lies) alone)
 
   pub end-entry : entryAt (fileAt z f scan j (suc (suc (countOf z j)))) z (j .slot) ≡ entryAfter z j
-  end-entry = rw entry-file (entry-new boot-sound (j .slot) (Y .low) (Y .used) E (Y .entry) (Y .lies) alone)
+  end-entry = rw entry-file (entry-new boot-sound (Y .current) (j .slot) (Y .low) (Y .used) E (Y .entry) (Y .lies) alone)
 
   all-rows : fileAt z f scan j K ≡ performs f ds
   all-rows = rows K (omega arith) ∙ ap (performs f) (take-all K ds (omega (arith, length-rows z j scan)))
@@ -162,18 +163,18 @@ module _ {z : Sizes} {f scan : List ℕ} {j : Job} (Y : Ready z f scan j) where
   pub end-shown : shownOf (fileAt z f scan j (suc (suc (countOf z j)))) z (j .slot) ≡ paddedOf z j scan
   end-shown =
       rw entry-file
-      (shown-new boot-sound (j .slot) (Y .low) (Y .used) E (Y .entry) (Y .lies) alone
+      (shown-new boot-sound (Y .current) (j .slot) (Y .low) (Y .used) E (Y .entry) (Y .lies) alone
       ∙ part-same (performs f ds) G (startOf z (statedBy E .first)) (statedBy E .last * z .l) (boot-len ∙ sym (rw all-rows at (rows-frame K (omega arith) .len))) data-same
       ∙ rw (Y .from, Y .to) (Y .gives))
 
   -- the others what they showed
   pub end-others : (t : ℕ) → 1 ≤ t → t ≤ capacityOf z → t ≢ j .slot → shownOf (fileAt z f scan j (suc (suc (countOf z j)))) z t ≡ shownOf f z t
   end-others t a b ne =
-      rw entry-file (shown-other boot-sound (j .slot) (Y .low) (Y .used) E (Y .entry) (Y .lies) alone t a b ne ∙ boot-keeps .shown t a b)
+      rw entry-file (shown-other boot-sound (Y .current) (j .slot) (Y .low) (Y .used) E (Y .entry) (Y .lies) alone t a b ne ∙ boot-keeps .shown t a b)
 
   pub end-entries : (t : ℕ) → 1 ≤ t → t ≤ capacityOf z → t ≢ j .slot → entryAt (fileAt z f scan j (suc (suc (countOf z j)))) z t ≡ entryAt f z t
   end-entries t a b ne =
-      rw entry-file (entry-other boot-sound (j .slot) (Y .low) (Y .used) E (Y .entry) (Y .lies) alone t a ne ∙ boot-keeps .entries t a b)
+      rw entry-file (entry-other boot-sound (Y .current) (j .slot) (Y .low) (Y .used) E (Y .entry) (Y .lies) alone t a ne ∙ boot-keeps .entries t a b)
 
   -- past the last write the file stays
   pub end-stays : (i : ℕ) → countOf z j + 2 ≤ i → fileAt z f scan j i ≡ fileAt z f scan j (suc (suc (countOf z j)))

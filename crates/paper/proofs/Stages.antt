@@ -67,6 +67,7 @@ module _ {z : Sizes} {f scan : List ℕ} {j : Job} (Y : Ready z f scan j) (A : A
       agreeing (F i) scan (placed j i (j .boot)) z
       (record {
         booted = rows-sound Y i h .booted;
+        current = A .current;
         size = A .size;
         span = r .len ∙ A .span;
         begun =
@@ -86,6 +87,7 @@ module _ {z : Sizes} {f scan : List ℕ} {j : Job} (Y : Ready z f scan j) (A : A
       agreeing (F i) scan (placed j (min i (K + 2)) (bootBytes z′)) z′
       (record {
         booted = late-sound Y i h .booted;
+        current = A .current;
         size = A .size;
         span = e ∙ A .span;
         begun = late-is Y i h;

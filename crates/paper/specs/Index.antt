@@ -5,7 +5,6 @@ use mathlib.Core.Bool.{Bool, not}
 use mathlib.Core.List.{List, [], _∷_, _++_}
 use lib.Dec.{ltb, leb, eqb}
 use lib.ListN.{length}
-use Rattle.lent.specs.Number.{be32}
 use Rattle.lent.specs.Lists.{all, those}
 use Rattle.lent.specs.Least.{least}
 use Rattle.lent.specs.Checks.{Check, check, judge}
@@ -16,11 +15,11 @@ use Rattle.paper.specs.declared.refusal.Refusal.{Refusal}
 use Rattle.paper.specs.declared.refusal.Refusal.the-variants.{BadEntry, AboveUse, SharedRecord}
 use Rattle.paper.specs.declared.answer.Opened.{Opened}
 use Rattle.paper.specs.declared.answer.Opened.the-variants.{Opens, Refused}
-use Rattle.paper.specs.Sizes.{sizesOf, versionOf, capacityOf, homeOf, startOf, bytesOf, bootChecks, changeBoot, Ranged}
+use Rattle.paper.specs.Sizes.{sizesOf, versionOf, wordAt, capacityOf, homeOf, startOf, bytesOf, bootChecks, changeBoot, Ranged}
 
--- bytes 0-3 and 4-7 of slot s's entry: "first record, last record"
+-- the first two numbers of slot s's entry: "first record, last record"
 abbrev pub runOf : List ℕ → Sizes → ℕ → Run
-runOf f z s = record { first = be32 f (homeOf z s); last = be32 f (homeOf z s + 4) }
+runOf f z s = record { first = wordAt (z .version) f (homeOf z s) 0; last = wordAt (z .version) f (homeOf z s) 1 }
 
 -- From here on the entries are a function that gives each slot its run, however the file states it.
 
@@ -80,11 +79,11 @@ indexChecks z run =
     ∷ lowest (sharedAt run) (z .u) SharedRecord
     ∷ []
 
--- refusals 1 to 8
+-- refusals 1 and 3 to 8
 abbrev pub openChecks : List ℕ → List (Check Refusal)
 openChecks f = bootChecks f ++ indexChecks (sizesOf f) (runOf f (sizesOf f))
 
--- the file may be changed: what save, keep and clear ask of it first
+-- the file may be changed, since it opens and is not old: what save, keep and clear ask of it first, refusals 1 to 8
 abbrev pub changeChecks : List ℕ → List (Check Refusal)
 changeChecks f = changeBoot f ++ indexChecks (sizesOf f) (runOf f (sizesOf f))
 
@@ -97,6 +96,13 @@ indexOf z run = judge Refused (indexChecks z run) (Opens z)
 
 unfoldable pub openOf : List ℕ → Opened
 openOf f = judge Refused (openChecks f) (Opens (sizesOf f))
+
+-- and whether a file may be changed, by its bootstrap alone and as a whole
+unfoldable pub changeBootOf : List ℕ → Opened
+changeBootOf f = judge Refused (changeBoot f) (Opens (sizesOf f))
+
+unfoldable pub changeOf : List ℕ → Opened
+changeOf f = judge Refused (changeChecks f) (Opens (sizesOf f))
 
 -- the slots with a scan, "in slot order"
 unfoldable pub slotsOf : Sizes → (ℕ → Run) → List ℕ
@@ -128,7 +134,7 @@ pub record Laid (z : Sizes) (run : ℕ → Run) : Type 0 where
 pub record Booted (f : List ℕ) (z : Sizes) : Type 0 where
   pub reads : sizesOf f ≡ z
   pub long : 512 ≤ length f
-  pub version : versionOf f ≡ 1
+  pub version : versionOf f ≤ 1
   pub ranged : Ranged z
   pub held : bytesOf z ≤ length f
 
@@ -136,3 +142,8 @@ pub record Booted (f : List ℕ) (z : Sizes) : Type 0 where
 pub record Sound (f : List ℕ) (z : Sizes) : Type 0 where
   pub booted : Booted f z
   pub laid : Laid z (runOf f z)
+
+-- what `changeOf f ≡ Opens z` says
+pub record Changeable (f : List ℕ) (z : Sizes) : Type 0 where
+  pub sound : Sound f z
+  pub current : z .version ≡ 1

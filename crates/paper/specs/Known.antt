@@ -1,4 +1,4 @@
--- Known answers: numbers and bytes of 01 written out, each against one definition; `at-most` alone names another, the list that is printed.
+-- Known answers: numbers and bytes of 01 and 02 written out, each against one definition; `at-most` alone names another, the list that is printed.
 use Prim.Native.Nat.{ℕ, _-_}
 use mathlib.Core.Path.{_≡_}
 use mathlib.Core.Bool.{true, false}
@@ -11,7 +11,7 @@ use Rattle.lent.specs.Lists.{table}
 use Rattle.lent.specs.Write.{write}
 use Rattle.paper.specs.declared.sizes.Sizes.{Sizes}
 use Rattle.paper.specs.declared.sizes.Run.{Run}
-use Rattle.paper.specs.declared.refusal.Refusal.the-variants.{TooShort, OldForm, UnknownForm, OutOfRange, PastEnd, BadEntry, AboveUse, SharedRecord, NoSuchSlot, EmptySlot, BadScan, NoEmptySlot, NoRoom, Disagrees, Differs, BadBlank, TooSmall}
+use Rattle.paper.specs.declared.refusal.Refusal.the-variants.{TooShort, OldForm, UnknownForm, OutOfRange, PastEnd, BadEntry, AboveUse, SharedRecord, NoSuchSlot, EmptySlot, BadScan, NoEmptySlot, NoRoom, Disagrees, Differs, BadBlank, TooSmall, NotVersionOne}
 use Rattle.paper.specs.declared.answer.Opened.{Opened}
 use Rattle.paper.specs.declared.answer.Opened.the-variants as opened
 use Rattle.paper.specs.declared.answer.Listed.the-variants as listed
@@ -24,12 +24,12 @@ use Rattle.paper.specs.declared.entry.Entry.{Entry}
 use Rattle.paper.specs.declared.job.Job.{Job}
 use Rattle.paper.specs.declared.job.Step.the-variants as step
 use Rattle.paper.specs.Refusals.{Says, refuses, openedSays, listedSays, spanSays, takenSays, stepSays, kindSays}
-use Rattle.paper.specs.Sizes.{sizesOf, versionOf, bootBytes}
+use Rattle.paper.specs.Sizes.{sizesOf, versionOf, wordAt, bootBytes}
 use Rattle.paper.specs.Index.{indexOf, openOf}
-use Rattle.paper.specs.Entry.{kindOf, fieldsOf, noEntry, entryBytes}
+use Rattle.paper.specs.Entry.{kindOf, magicOf, versionOne, fieldsOf, noEntry, entryBytes}
 use Rattle.paper.specs.Scan.{classesOf, startsOf, rule1, ruledOf, classOf, dataOf, partOf, spanPlace}
 use Rattle.paper.specs.Look.{listedOf, listedOut, foundOf, showOf, readOf}
-use Rattle.paper.specs.Store.{blankSizes, freePlace, emptySlot, noJob, sizesAfter}
+use Rattle.paper.specs.Store.{blankSizes, freePlace, emptySlot, noJob, saveOf, keepOf, clearOf, sizesAfter}
 use Rattle.paper.specs.Step.{agrees, noWrite, stands, isConfirmed}
 use Rattle.paper.specs.Lister.{decimal, printed, listText}
 
@@ -57,14 +57,15 @@ pub record Refusals : Type 0 where
   pub differs : refuses Differs ≡ says 15 (0 ∷ [])
   pub bad-blank : refuses BadBlank ≡ says 16 (0 ∷ [])
   pub too-small : refuses TooSmall ≡ says 17 (0 ∷ [])
+  pub not-version-one : refuses NotVersionOne ≡ says 18 (0 ∷ [])
 
 -- sizes with every number its own
 abbrev pub someSizes : Sizes
-someSizes = record { n = 16909060; d = 84281096; l = 151653132; m = 219025168; u = 286397204; counter = 353769240; kind = 421141276 }
+someSizes = record { n = 16909060; d = 84281096; l = 151653132; m = 219025168; u = 286397204; counter = 353769240; kind = 421141276; version = 488513312 }
 
 -- and what is accepted: 0, and the values
 pub record Answers : Type 0 where
-  pub opens : openedSays (opened.Opens someSizes) ≡ says 0 (16909060 ∷ 84281096 ∷ 151653132 ∷ 219025168 ∷ 286397204 ∷ 353769240 ∷ 421141276 ∷ [])
+  pub opens : openedSays (opened.Opens someSizes) ≡ says 0 (16909060 ∷ 84281096 ∷ 151653132 ∷ 219025168 ∷ 286397204 ∷ 353769240 ∷ 421141276 ∷ 488513312 ∷ [])
   pub not-opened : openedSays (opened.Refused (BadEntry 3)) ≡ says 6 (3 ∷ [])
   pub scans : listedSays (listed.Scans 2) ≡ says 0 (2 ∷ [])
   pub not-listed : listedSays (listed.Refused TooSmall) ≡ says 17 (0 ∷ [])
@@ -93,6 +94,16 @@ pub record Boot : Type 0 where
   pub version : versionOf bytes32 ≡ 488513312
   pub written : bootBytes someSizes ≡ 1 ∷ 2 ∷ 3 ∷ 4 ∷ 5 ∷ 6 ∷ 7 ∷ 8 ∷ 9 ∷ 10 ∷ 11 ∷ 12 ∷ 13 ∷ 14 ∷ 15 ∷ 16 ∷ 17 ∷ 18 ∷ 19 ∷ 20 ∷ 21 ∷ 22 ∷ 23 ∷ 24 ∷ 25 ∷ 26 ∷ 27 ∷ 28 ∷ 0 ∷ 0 ∷ 0 ∷ 1 ∷ []
 
+-- 02: "six 16-bit words (N, D, L, M, U, counter)", the type 0; what stands in bytes 12 to 27 is none of them
+pub record OldBoot : Type 0 where
+  pub reads : sizesOf (take 28 bytes32 ++ (0 ∷ 0 ∷ 0 ∷ 0 ∷ [])) ≡ record { n = 258; d = 772; l = 1286; m = 1800; u = 2314; counter = 2828; kind = 0; version = 0 }
+  -- all ones: each word -1, the counter plain bits
+  pub all-ones : sizesOf (replicate 28 255 ++ (0 ∷ 0 ∷ 0 ∷ 0 ∷ []))
+      ≡ record { n = 4294967295; d = 4294967295; l = 4294967295; m = 4294967295; u = 4294967295; counter = 65535; kind = 0; version = 0 }
+  pub greatest : wordAt 0 (9 ∷ 9 ∷ 127 ∷ 255 ∷ []) 0 1 ≡ 32767
+  pub least : wordAt 0 (9 ∷ 9 ∷ 128 ∷ 0 ∷ []) 0 1 ≡ 4294934528
+  pub current : wordAt 1 (9 ∷ 9 ∷ 9 ∷ 9 ∷ 255 ∷ 255 ∷ 128 ∷ 0 ∷ []) 0 1 ≡ 4294934528
+
 -- ---- an entry in bytes
 
 -- bytes 8 to 61, no two alike
@@ -119,12 +130,42 @@ entryIs =
       mode = pos 14650;
       number = pos 15164;
       position = pos 15678;
+      magic = pos 0;
+      kind = Other (ofBits binary32 623257384) (ofBits binary64 2966230773313449776);
+    }
+
+-- the same bytes in the old form: first, last, magic number and position code are bytes 0 to 7
+abbrev pub oldEntryIs : Entry
+oldEntryIs =
+    record {
+      first = 258;
+      last = 772;
+      horizontal = 151653132;
+      vertical = 219025168;
+      source = 17 ∷ 18 ∷ 19 ∷ 20 ∷ 21 ∷ 22 ∷ 23 ∷ 24 ∷ 25 ∷ 26 ∷ 27 ∷ 28 ∷ 29 ∷ 30 ∷ 31 ∷ 32 ∷ [];
+      scan = 555885348;
+      field4 = 623257384;
+      field8 = 2966230773313449776;
+      lst = 825373492;
+      date = 892745528;
+      mode = pos 14650;
+      number = pos 15164;
+      position = pos 1800;
+      magic = pos 1286;
       kind = Other (ofBits binary32 623257384) (ofBits binary64 2966230773313449776);
     }
 
 pub record Entries : Type 0 where
-  pub fields : fieldsOf bytes64 2 ≡ entryIs
-  pub written : entryBytes (record { n = 2; d = 0; l = 512; m = 64; u = 0; counter = 0; kind = 0 }) (record { first = 16909060; last = 84281096 }) bytes54 ≡ 1 ∷ 2 ∷ 3 ∷ 4 ∷ 5 ∷ 6 ∷ 7 ∷ 8 ∷ (bytes54 ++ (0 ∷ 0 ∷ []))
+  pub fields : fieldsOf 1 bytes64 2 ≡ entryIs
+  pub old-fields : fieldsOf 0 bytes64 2 ≡ oldEntryIs
+  pub no-magic : magicOf 1 bytes64 2 ≡ 0
+  -- "Magic 2 is a version 1 scan"
+  pub magic-1 : versionOne 0 (0 ∷ 0 ∷ 0 ∷ 0 ∷ 0 ∷ 1 ∷ []) 0 ≡ false
+  pub magic-2 : versionOne 0 (0 ∷ 0 ∷ 0 ∷ 0 ∷ 0 ∷ 2 ∷ []) 0 ≡ true
+  pub magic-3 : versionOne 0 (0 ∷ 0 ∷ 0 ∷ 0 ∷ 0 ∷ 3 ∷ []) 0 ≡ false
+  pub magic-258 : versionOne 0 (0 ∷ 0 ∷ 0 ∷ 0 ∷ 1 ∷ 2 ∷ []) 0 ≡ false
+  pub current-one : versionOne 1 (0 ∷ 0 ∷ 0 ∷ 0 ∷ 0 ∷ 3 ∷ []) 0 ≡ true
+  pub written : entryBytes (record { n = 2; d = 0; l = 512; m = 64; u = 0; counter = 0; kind = 0; version = 1 }) (record { first = 16909060; last = 84281096 }) bytes54 ≡ 1 ∷ 2 ∷ 3 ∷ 4 ∷ 5 ∷ 6 ∷ 7 ∷ 8 ∷ (bytes54 ++ (0 ∷ 0 ∷ []))
   -- "integers two's complement"
   pub greatest : int16 32767 ≡ pos 32767
   pub least : int16 32768 ≡ negsuc 32767
@@ -213,7 +254,7 @@ abbrev pub run : ℕ → ℕ → Run
 run a b = record { first = a; last = b }
 
 abbrev pub used : ℕ → Sizes
-used u = record { n = 2; d = 8; l = 512; m = 128; u = u; counter = 0; kind = 0 }
+used u = record { n = 2; d = 8; l = 512; m = 128; u = u; counter = 0; kind = 0; version = 1 }
 
 -- what is judged of slots 1, 2 and 3 where the first so many are in use
 abbrev pub index : ℕ → Run → Run → Run → Opened
@@ -268,7 +309,7 @@ unfoldable pub file : List ℕ
 file = fileBoot ++ (fileIndex ++ (scan15 ++ (replicate 200 0 ++ (scan13 ++ (replicate 204 0 ++ replicate 512 0)))))
 
 abbrev pub fileSizes : Sizes
-fileSizes = record { n = 2; d = 3; l = 512; m = 128; u = 4; counter = 4294967295; kind = 1 }
+fileSizes = record { n = 2; d = 3; l = 512; m = 128; u = 4; counter = 4294967295; kind = 1; version = 1 }
 
 pub record File : Type 0 where
   pub long : length file ≡ 2560
@@ -346,6 +387,49 @@ pub record Stands : Type 0 where
   pub not-cleared : stands file [] (record { saves = false; slot = 3; size = 0; span = 2560; first = 0; written = 2; boot = []; about = [] }) fileSizes ≡ false
   pub cleared : stands file [] (clearWith 4 2 []) fileSizes ≡ true
 
+-- ---- an old file
+
+-- the same sizes and scans: bytes 12 to 27 and those after word 8 are not judged; magic numbers 2, 1 and 2, and of the empty slot 3; the position code -3
+abbrev pub oldBoot : List ℕ
+oldBoot = 0 ∷ 2 ∷ 0 ∷ 3 ∷ 2 ∷ 0 ∷ 0 ∷ 128 ∷ 0 ∷ 4 ∷ 255 ∷ 255 ∷ (replicate 16 99 ++ (0 ∷ 0 ∷ 0 ∷ 0 ∷ replicate 480 77))
+
+abbrev pub oldIndex : List ℕ
+oldIndex =
+    (0 ∷ 4 ∷ 0 ∷ 4 ∷ 0 ∷ 2 ∷ 255 ∷ 253 ∷ (take 52 bytes54 ++ replicate 68 78))
+    ++ ((0 ∷ 3 ∷ 0 ∷ 3 ∷ 0 ∷ 1 ∷ replicate 122 5) ++ ((0 ∷ 5 ∷ 0 ∷ 5 ∷ 0 ∷ 2 ∷ replicate 122 0) ++ (0 ∷ 0 ∷ 0 ∷ 0 ∷ 0 ∷ 3 ∷ replicate 122 0)))
+
+unfoldable pub oldFile : List ℕ
+oldFile = oldBoot ++ (oldIndex ++ (scan15 ++ (replicate 200 0 ++ (scan13 ++ (replicate 204 0 ++ replicate 512 0)))))
+
+pub record OldFile : Type 0 where
+  pub long : length oldFile ≡ 2560
+  pub opens : openOf oldFile ≡ opened.Opens (record { n = 2; d = 3; l = 512; m = 128; u = 4; counter = 65535; kind = 0; version = 0 })
+  pub lists : listedOf oldFile (replicate 11 9) ≡ listed.Scans 3
+  pub lines : listedOut oldFile (replicate 11 9) ≡ 1 ∷ 4 ∷ 4 ∷ 2 ∷ 3 ∷ 3 ∷ 3 ∷ 5 ∷ 5 ∷ 9 ∷ 9 ∷ []
+  pub show-1 : showOf oldFile 1 ≡ Part 1536 2048
+  pub show-2 : showOf oldFile 2 ≡ Part 1024 1536
+  pub read-1 : readOf oldFile 1 ≡ Part 1536 1844
+  -- "any other is listed and shown, but not read"; 18 stands after 10 and before 11
+  pub read-2 : readOf oldFile 2 ≡ span.Refused NotVersionOne
+  pub read-3 : readOf oldFile 3 ≡ span.Refused (BadScan 2)
+  pub read-4 : readOf oldFile 4 ≡ span.Refused EmptySlot
+  pub eighteen-first : readOf (write oldFile 773 (1 ∷ [])) 3 ≡ span.Refused NotVersionOne
+  pub magic : foundOf oldFile 1 .entry .magic ≡ pos 2
+  pub position : foundOf oldFile 1 .entry .position ≡ negsuc 2
+  -- -1 for D, for the first record of slot 1, and above U
+  pub minus-d : openOf (write oldFile 2 (255 ∷ 255 ∷ [])) ≡ opened.Refused OutOfRange
+  pub minus-first : openOf (write oldFile 512 (255 ∷ 255 ∷ [])) ≡ opened.Refused (BadEntry 1)
+  pub minus-above : openOf (write (write oldFile 9 (3 ∷ [])) 896 (128 ∷ 0 ∷ [])) ≡ opened.Refused (AboveUse 4)
+  pub shared : openOf (write oldFile 641 (4 ∷ 0 ∷ 4 ∷ [])) ≡ opened.Refused (SharedRecord 2)
+  -- "2 now means a save, keep or clear on an old file and keeps its place": after 1 and before 4
+  pub no-save : takenSays (saveOf oldFile 4 scan13 bytes54 .answer) ≡ says 2 (0 ∷ [])
+  pub no-keep : takenSays (keepOf oldFile scan13 bytes54 .answer) ≡ says 2 (0 ∷ [])
+  pub no-clear : takenSays (clearOf oldFile 1 .answer) ≡ says 2 (0 ∷ [])
+  pub before-4 : takenSays (clearOf (write oldFile 2 (255 ∷ 255 ∷ [])) 1 .answer) ≡ says 2 (0 ∷ [])
+  pub after-1 : takenSays (clearOf (take 511 oldFile) 1 .answer) ≡ says 1 (0 ∷ [])
+  -- "a step on an old file gets 14", whatever the job expects
+  pub no-step : agrees oldFile [] (clearWith 1 0 (take 32 oldBoot)) ≡ false
+
 -- ---- the counter and record 1
 
 abbrev pub saveJob : Job
@@ -356,13 +440,13 @@ clearJob = record { saves = false; slot = 5; size = 0; span = 0; first = 0; writ
 
 pub record Renewed : Type 0 where
   -- "D = U = counter = type = 0"
-  pub blank : blankSizes 3 512 64 ≡ record { n = 3; d = 0; l = 512; m = 64; u = 0; counter = 0; kind = 0 }
+  pub blank : blankSizes 3 512 64 ≡ record { n = 3; d = 0; l = 512; m = 64; u = 0; counter = 0; kind = 0; version = 1 }
   -- D = 40 + 2 - 1 - 3, U = 5, the counter one higher
-  pub raised : sizesAfter (record { n = 3; d = 9; l = 512; m = 64; u = 4; counter = 7; kind = 1 }) saveJob ≡ record { n = 3; d = 38; l = 512; m = 64; u = 5; counter = 8; kind = 1 }
-  pub as-it-was : sizesAfter (record { n = 3; d = 90; l = 512; m = 64; u = 6; counter = 7; kind = 0 }) saveJob ≡ record { n = 3; d = 90; l = 512; m = 64; u = 6; counter = 8; kind = 0 }
-  pub cleared : sizesAfter (record { n = 3; d = 9; l = 512; m = 64; u = 4; counter = 7; kind = 0 }) clearJob ≡ record { n = 3; d = 9; l = 512; m = 64; u = 4; counter = 8; kind = 0 }
+  pub raised : sizesAfter (record { n = 3; d = 9; l = 512; m = 64; u = 4; counter = 7; kind = 1; version = 1 }) saveJob ≡ record { n = 3; d = 38; l = 512; m = 64; u = 5; counter = 8; kind = 1; version = 1 }
+  pub as-it-was : sizesAfter (record { n = 3; d = 90; l = 512; m = 64; u = 6; counter = 7; kind = 0; version = 1 }) saveJob ≡ record { n = 3; d = 90; l = 512; m = 64; u = 6; counter = 8; kind = 0; version = 1 }
+  pub cleared : sizesAfter (record { n = 3; d = 9; l = 512; m = 64; u = 4; counter = 7; kind = 0; version = 1 }) clearJob ≡ record { n = 3; d = 9; l = 512; m = 64; u = 4; counter = 8; kind = 0; version = 1 }
   -- "after all ones comes zero"
-  pub all-ones : sizesAfter fileSizes clearJob ≡ record { n = 2; d = 3; l = 512; m = 128; u = 4; counter = 0; kind = 1 }
+  pub all-ones : sizesAfter fileSizes clearJob ≡ record { n = 2; d = 3; l = 512; m = 128; u = 4; counter = 0; kind = 1; version = 1 }
 
 -- ---- zeros
 
@@ -370,7 +454,7 @@ pub record Zeros : Type 0 where
   -- "writes nothing (record 0)"
   pub write-none : noWrite ≡ record { at = 0; bytes = []; record-no = 0 }
   pub job : noJob ≡ record { saves = false; slot = 0; size = 0; span = 0; first = 0; written = 0; boot = replicate 32 0; about = replicate 54 0 }
-  pub entry : noEntry ≡ record { first = 0; last = 0; horizontal = 0; vertical = 0; source = replicate 16 0; scan = 0; field4 = 0; field8 = 0; lst = 0; date = 0; mode = pos 0; number = pos 0; position = pos 0; kind = Other (ofBits binary32 0) (ofBits binary64 0) }
+  pub entry : noEntry ≡ record { first = 0; last = 0; horizontal = 0; vertical = 0; source = replicate 16 0; scan = 0; field4 = 0; field8 = 0; lst = 0; date = 0; mode = pos 0; number = pos 0; position = pos 0; magic = pos 0; kind = Other (ofBits binary32 0) (ofBits binary64 0) }
 
 -- ---- the lister
 

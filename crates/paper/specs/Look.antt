@@ -10,7 +10,7 @@ use Rattle.lent.specs.Write.{write}
 use Rattle.paper.specs.declared.sizes.Sizes.{Sizes}
 use Rattle.paper.specs.declared.sizes.Run.{Run}
 use Rattle.paper.specs.declared.refusal.Refusal.{Refusal}
-use Rattle.paper.specs.declared.refusal.Refusal.the-variants.{NoSuchSlot, EmptySlot, TooSmall}
+use Rattle.paper.specs.declared.refusal.Refusal.the-variants.{NoSuchSlot, EmptySlot, TooSmall, NotVersionOne}
 use Rattle.paper.specs.declared.answer.Listed.{Listed}
 use Rattle.paper.specs.declared.answer.Listed.the-variants as listed
 use Rattle.paper.specs.declared.answer.Span.{Span}
@@ -18,9 +18,9 @@ use Rattle.paper.specs.declared.answer.Span.the-variants.{Part, Refused}
 use Rattle.paper.specs.declared.answer.Ruled.{Ruled}
 use Rattle.paper.specs.declared.answer.Taken.the-variants as taken
 use Rattle.paper.specs.declared.entry.Found.{Found}
-use Rattle.paper.specs.Sizes.{sizesOf, capacityOf, homeOf, startOf}
+use Rattle.paper.specs.Sizes.{sizesOf, versionOf, capacityOf, homeOf, startOf}
 use Rattle.paper.specs.Index.{runOf, empty, slotsOf, shownOf, openChecks}
-use Rattle.paper.specs.Entry.{fieldsOf, noEntry}
+use Rattle.paper.specs.Entry.{fieldsOf, versionOne, noEntry}
 use Rattle.paper.specs.Scan.{ruledOf, ofRuled}
 
 -- "it writes slot, first and last as three 32-bit numbers per scan in slot order"
@@ -59,7 +59,7 @@ noScan r = check (empty r) EmptySlot
 abbrev pub heldChecks : List ℕ → ℕ → List (Check Refusal)
 heldChecks f s = noSlot (sizesOf f) s ∷ noScan (runOf f (sizesOf f) s) ∷ []
 
--- 1 to 8, then these
+-- open's own, then these
 abbrev pub slotChecks : List ℕ → ℕ → List (Check Refusal)
 slotChecks f s = openChecks f ++ heldChecks f s
 
@@ -67,7 +67,7 @@ slotChecks f s = openChecks f ++ heldChecks f s
 unfoldable pub foundOf : List ℕ → ℕ → Found
 foundOf f s =
     judge (λ r. record { answer = taken.Refused r; entry = noEntry }) (slotChecks f s)
-    (record { answer = taken.Accepted; entry = fieldsOf f (homeOf (sizesOf f) s) })
+    (record { answer = taken.Accepted; entry = fieldsOf (versionOf f) f (homeOf (sizesOf f) s) })
 
 -- "show a slot's records (the part of the lent file from first to last)"
 abbrev pub recordsSpan : Sizes → Run → Span
@@ -76,13 +76,20 @@ recordsSpan z r = Part (startOf z (r .first)) (r .last * z .l)
 unfoldable pub showOf : List ℕ → ℕ → Span
 showOf f s = judge Refused (slotChecks f s) (recordsSpan (sizesOf f) (runOf f (sizesOf f) s))
 
+-- "18, scan not version 1, stands between 10 and 11"
+abbrev pub otherScan : List ℕ → ℕ → Check Refusal
+otherScan f s = check (not (versionOne (versionOf f) f (homeOf (sizesOf f) s))) NotVersionOne
+
+abbrev pub readChecks : List ℕ → ℕ → List (Check Refusal)
+readChecks f s = slotChecks f s ++ (otherScan f s ∷ [])
+
 -- "A read answers the first HEADLEN + DATALEN bytes of the entry's records"
 abbrev pub readIn : ℕ → Ruled → Span
 readIn from ruled = ofRuled (λ head rest. Part from (from + (head + rest))) ruled
 
 unfoldable pub readOf : List ℕ → ℕ → Span
 readOf f s =
-    judge Refused (slotChecks f s)
+    judge Refused (readChecks f s)
     (readIn (startOf (sizesOf f) (runOf f (sizesOf f) s .first)) (ruledOf (shownOf f (sizesOf f) s) false))
 
 -- ---- what the tests say, in plain facts

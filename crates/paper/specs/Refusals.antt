@@ -3,7 +3,7 @@ use Prim.Native.Nat.{ℕ}
 use mathlib.Core.List.{List, [], _∷_}
 use lib.Ieee.{Float}
 use Rattle.paper.specs.declared.refusal.Refusal.{Refusal}
-use Rattle.paper.specs.declared.refusal.Refusal.the-variants.{TooShort, OldForm, UnknownForm, OutOfRange, PastEnd, BadEntry, AboveUse, SharedRecord, NoSuchSlot, EmptySlot, BadScan, NoEmptySlot, NoRoom, Disagrees, Differs, BadBlank, TooSmall}
+use Rattle.paper.specs.declared.refusal.Refusal.the-variants.{TooShort, OldForm, UnknownForm, OutOfRange, PastEnd, BadEntry, AboveUse, SharedRecord, NoSuchSlot, EmptySlot, BadScan, NoEmptySlot, NoRoom, Disagrees, Differs, BadBlank, TooSmall, NotVersionOne}
 use Rattle.paper.specs.declared.answer.Opened.{Opened}
 use Rattle.paper.specs.declared.answer.Opened.the-variants as opened
 use Rattle.paper.specs.declared.answer.Listed.{Listed}
@@ -36,6 +36,7 @@ numberOf Disagrees = 14
 numberOf Differs = 15
 numberOf BadBlank = 16
 numberOf TooSmall = 17
+numberOf NotVersionOne = 18
 
 -- "with slot or reason where shown, else 0"
 abbrev pub valueOf : Refusal → ℕ
@@ -56,6 +57,7 @@ valueOf Disagrees = 0
 valueOf Differs = 0
 valueOf BadBlank = 0
 valueOf TooSmall = 0
+valueOf NotVersionOne = 0
 
 -- what an answer says: the refusal's number, or 0 where the call is accepted; and the values that go with it
 pub record Says : Type 0 where
@@ -69,7 +71,7 @@ abbrev pub refuses : Refusal → Says
 refuses r = record { number = numberOf r; values = valueOf r ∷ [] }
 
 abbrev pub openedSays : Opened → Says
-openedSays (opened.Opens z) = accepts (z .n ∷ z .d ∷ z .l ∷ z .m ∷ z .u ∷ z .counter ∷ z .kind ∷ [])
+openedSays (opened.Opens z) = accepts (z .n ∷ z .d ∷ z .l ∷ z .m ∷ z .u ∷ z .counter ∷ z .kind ∷ z .version ∷ [])
 openedSays (opened.Refused r) = refuses r
 
 abbrev pub listedSays : Listed → Says

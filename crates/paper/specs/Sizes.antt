@@ -1,24 +1,49 @@
--- 01, "Sizes": the bootstrap, its ranges, and what follows from the sizes alone.
+-- 01, "Sizes": the bootstrap, its ranges, and what follows from the sizes alone; the older form of 02, 2026-01.
 use Prim.Native.Nat.{ℕ, _+_, _-_, _*_, _/_, _%_, _≤_, min}
 use mathlib.Core.Path.{_≡_}
-use mathlib.Core.Bool.{Bool, not}
+use mathlib.Core.Bool.{Bool, not, cond}
 use mathlib.Core.List.{List, [], _∷_}
 use lib.Dec.{ltb, leb, eqb}
 use lib.ListN.{length}
-use Rattle.lent.specs.Number.{be32, words}
+use Rattle.lent.specs.Number.{be16, be32, words, widened}
 use Rattle.lent.specs.Lists.{all}
 use Rattle.lent.specs.Checks.{Check, check}
 use Rattle.paper.specs.declared.sizes.Sizes.{Sizes}
 use Rattle.paper.specs.declared.refusal.Refusal.{Refusal}
 use Rattle.paper.specs.declared.refusal.Refusal.the-variants.{TooShort, OldForm, UnknownForm, OutOfRange, PastEnd}
 
--- "Bootstrap: eight 32-bit words": words 1 to 7
-abbrev pub sizesOf : List ℕ → Sizes
-sizesOf f = record { n = be32 f 0; d = be32 f 4; l = be32 f 8; m = be32 f 12; u = be32 f 16; counter = be32 f 20; kind = be32 f 24 }
-
--- word 8
+-- word 8: 0 in the old form, 1 in the current one
 abbrev pub versionOf : List ℕ → ℕ
 versionOf f = be32 f 28
+
+-- by version: what the old form has, and what the current one
+abbrev pub byForm : {A : Type 0} → ℕ → A → A → A
+byForm v old current = cond (eqb v 0) old current
+
+-- number i, from 0 on, of those at place `at`: 32 bits each; in the old form 16, "integers two's complement", and it is the 32-bit number of the same value
+unfoldable pub wordAt : ℕ → List ℕ → ℕ → ℕ → ℕ
+wordAt v f at i = byForm v (widened (be16 f (at + 2 * i))) (be32 f (at + 4 * i))
+
+-- "The counter is 16 plain bits and the type counts as 0"
+unfoldable pub counterOf : List ℕ → ℕ
+counterOf f = byForm (versionOf f) (be16 f 10) (be32 f 20)
+
+unfoldable pub typeOf : List ℕ → ℕ
+typeOf f = byForm (versionOf f) 0 (be32 f 24)
+
+-- "Bootstrap: eight 32-bit words"; the old one "six 16-bit words (N, D, L, M, U, counter)"
+abbrev pub sizesOf : List ℕ → Sizes
+sizesOf f =
+    record {
+      n = wordAt (versionOf f) f 0 0;
+      d = wordAt (versionOf f) f 0 1;
+      l = wordAt (versionOf f) f 0 2;
+      m = wordAt (versionOf f) f 0 3;
+      u = wordAt (versionOf f) f 0 4;
+      counter = counterOf f;
+      kind = typeOf f;
+      version = versionOf f;
+    }
 
 -- the bootstrap's 32 bytes, of version 1
 unfoldable pub bootBytes : Sizes → List ℕ
@@ -26,7 +51,7 @@ bootBytes z = words (z .n ∷ z .d ∷ z .l ∷ z .m ∷ z .u ∷ z .counter ∷
 
 -- the same sizes but for D, U and the counter
 abbrev pub renewed : Sizes → ℕ → ℕ → ℕ → Sizes
-renewed z d u c = record { n = z .n; d = d; l = z .l; m = z .m; u = u; counter = c; kind = z .kind }
+renewed z d u c = record { n = z .n; d = d; l = z .l; m = z .m; u = u; counter = c; kind = z .kind; version = z .version }
 
 -- "Capacity is (N-1) x L / M"
 abbrev pub capacityOf : Sizes → ℕ
@@ -78,19 +103,28 @@ countTests z = leb (z .n + z .d) 1000000 ∷ leb (z .u) (capacityOf z) ∷ leb (
 unfoldable pub inRange : Sizes → Bool
 inRange z = all (shaped z ∷ countTests z)
 
--- refusals 1 to 5, in order
-abbrev pub bootChecks : List ℕ → List (Check Refusal)
-bootChecks f =
-    check (ltb (length f) 512) TooShort
-    ∷ check (eqb (versionOf f) 0) OldForm
-    ∷ check (not (eqb (versionOf f) 1)) UnknownForm
+-- refusal 1
+abbrev pub tooShort : List ℕ → Check Refusal
+tooShort f = check (ltb (length f) 512) TooShort
+
+-- refusals 3 to 5, in order
+abbrev pub wordChecks : List ℕ → List (Check Refusal)
+wordChecks f =
+    check (ltb 1 (versionOf f)) UnknownForm
     ∷ check (not (inRange (sizesOf f))) OutOfRange
     ∷ check (ltb (length f) (bytesOf (sizesOf f))) PastEnd
     ∷ []
 
--- the same, asked by a call that changes the file
+-- a look asks for all of these
+abbrev pub bootChecks : List ℕ → List (Check Refusal)
+bootChecks f = tooShort f ∷ wordChecks f
+
+-- "2 now means a save, keep or clear on an old file and keeps its place"
+abbrev pub oldForm : List ℕ → Check Refusal
+oldForm f = check (eqb (versionOf f) 0) OldForm
+
 abbrev pub changeBoot : List ℕ → List (Check Refusal)
-changeBoot f = bootChecks f
+changeBoot f = tooShort f ∷ oldForm f ∷ wordChecks f
 
 -- what `shaped` says
 pub record Shaped (z : Sizes) : Type 0 where

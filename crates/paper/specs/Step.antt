@@ -115,6 +115,7 @@ steppedOf f scan j = record { answer = stepAnswer f scan j; job = stepJob f scan
 -- what `agrees f scan j ≡ true` says, z being what the file's bootstrap says
 pub record Agreeing (f scan : List ℕ) (j : Job) (z : Sizes) : Type 0 where
   pub booted : Booted f z
+  pub current : z .version ≡ 1
   pub size : length scan ≡ j .size
   pub span : length f ≡ j .span
   pub begun : take 32 f ≡ j .boot

@@ -26,9 +26,9 @@ use Rattle.paper.specs.Look.{noSlot, heldChecks}
 
 -- ---- blank
 
--- "D = U = counter = type = 0"
+-- "D = U = counter = type = 0", of the current form
 abbrev pub blankSizes : ℕ → ℕ → ℕ → Sizes
-blankSizes n l m = record { n = n; d = 0; l = l; m = m; u = 0; counter = 0; kind = 0 }
+blankSizes n l m = record { n = n; d = 0; l = l; m = m; u = 0; counter = 0; kind = 0; version = 1 }
 
 -- 16: "N, L or M outside the ranges, capacity above 4,096, or N x L exceeds the lent length"
 abbrev pub blankTests : ℕ → Sizes → List Bool

@@ -11,7 +11,7 @@ pub enum Kind {
     Other(f32, f64),
 }
 
-// Bytes 0 to 61. Each Real is kept as its bits.
+// Bytes 0 to 61, of the old form 0 to 59. Each Real is kept as its bits.
 pub struct Entry {
     pub first: u32,
     pub last: u32,
@@ -26,6 +26,8 @@ pub struct Entry {
     pub mode: i16,
     pub number: i16,
     pub position: i16,
+    // Of the old form alone; 0 in the current one.
+    pub magic: i16,
     pub kind: Kind,
 }
 

@@ -20,6 +20,7 @@ pub enum Refusal {
     Differs,
     BadBlank,
     TooSmall,
+    NotVersionOne,
 }
 
 impl Refusal {
@@ -45,6 +46,7 @@ impl Refusal {
             Refusal::Differs => 15,
             Refusal::BadBlank => 16,
             Refusal::TooSmall => 17,
+            Refusal::NotVersionOne => 18,
         }
     }
 
@@ -70,6 +72,7 @@ impl Refusal {
             Refusal::Differs => 0,
             Refusal::BadBlank => 0,
             Refusal::TooSmall => 0,
+            Refusal::NotVersionOne => 0,
         }
     }
 }

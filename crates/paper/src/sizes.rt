@@ -2,7 +2,7 @@
 ghost use mathlib.Core.Path.{_≡_};
 ghost use Rattle.paper.specs.Sizes.{capacityOf, recordOf, placeOf, homeOf, roomOf, Shaped, Slotted};
 
-// The bootstrap's words 1 to 7.
+// What the bootstrap's words say, in either form.
 pub struct Sizes {
     pub n: usize,
     pub d: usize,
@@ -11,6 +11,8 @@ pub struct Sizes {
     pub u: usize,
     pub counter: u32,
     pub kind: usize,
+    // 0 the old form, 1 the current one.
+    pub version: usize,
 }
 
 impl Sizes {

@@ -8,9 +8,9 @@ use Rattle.lent.specs.Write.{write, zeros, pad}
 use Rattle.lent.specs.Same.{same}
 use Rattle.whole.specs.Number.{exactly, wholeFloat, wholeOf}
 use Rattle.whole.specs.Length.{lengthOf, isWhole, sizeOf}
-use Rattle.paper.specs.Sizes.{bootBytes, shaped, inRange}
+use Rattle.paper.specs.Sizes.{wordAt, counterOf, typeOf, bootBytes, shaped, inRange}
 use Rattle.paper.specs.Index.{empty, inData, badAt, aboveAt, shares, sharer, sharedAt, openOf, slotsOf}
-use Rattle.paper.specs.Entry.{entryBytes}
+use Rattle.paper.specs.Entry.{versionOne, entryBytes}
 use Rattle.paper.specs.Scan.{classesOf, startsOf, rule1, rule2, rule3, rule4, rule5, rule6, rising, ruledOf}
 use Rattle.paper.specs.Look.{readOf}
 use Rattle.paper.specs.Store.{blankFile, blankOf, freeAt, freePlace, saveOf, dataFrom, writesOf}
@@ -25,7 +25,7 @@ unfolding number value int16 table every exactly wholeFloat wholeOf ofBits lengt
 kept = record { first = refl; second = refl; third = refl; fourth = refl; fifth = refl }
 
 pub run : Run
-unfolding number value digit bytes words int16 table every those least write zeros pad same exactly wholeFloat wholeOf ofBits lengthOf isWhole sizeOf bootBytes shaped inRange empty inData badAt aboveAt shares sharer sharedAt openOf slotsOf entryBytes classesOf startsOf rule1 rule2 rule3 rule4 rule5 rule6 rising ruledOf readOf blankFile blankOf freeAt freePlace saveOf dataFrom writesOf agrees stepFile stepJob stands stepAnswer digits linesText listText preamble double scanOf file0 file1 file2 file3 file4 broken
+unfolding number value digit bytes words int16 table every those least write zeros pad same exactly wholeFloat wholeOf ofBits lengthOf isWhole sizeOf wordAt counterOf typeOf bootBytes shaped inRange empty inData badAt aboveAt shares sharer sharedAt openOf slotsOf versionOne entryBytes classesOf startsOf rule1 rule2 rule3 rule4 rule5 rule6 rising ruledOf readOf blankFile blankOf freeAt freePlace saveOf dataFrom writesOf agrees stepFile stepJob stands stepAnswer digits linesText listText preamble double scanOf file0 file1 file2 file3 file4 broken
 run =
     record {
       blanked = refl;

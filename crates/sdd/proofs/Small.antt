@@ -1,20 +1,22 @@
--- Refusal numbers end at 17, slots at 4,096 and reasons at 6: what a refusal says fits the face.
-use Prim.Native.Nat.{ℕ, _-_, _*_, _≤_}
+-- Refusal numbers end at 18, slots at 4,096 and reasons at 6: what a refusal says fits the face.
+use Prim.Native.Nat.{ℕ, _-_, _*_, _≤_, _<_}
 use mathlib.Core.Path.{_≡_, refl, sym, _∙_, subst}
 use mathlib.Core.Bool.{Bool, true, false, cond}
 use mathlib.Core.List.{List, [], _∷_, _++_}
+use mathlib.Core.Logic.{_≢_, ⊎-elim}
 use native.Mathlib.Omega.{arith}
 use lib.Dec.{ltb, leb, eqb}
 use lib.ListN.{length}
 use lib.IntN.{ℤ}
 use Rattle.lent.specs.Lists.{all}
 use Rattle.lent.specs.Checks.{Check, check, Fired, clear, fires, fired, answer, judge}
+use Rattle.lent.proofs.Lists.{lt-or-ge, same-or}
 use Rattle.lent.proofs.Leasts.{least-le}
 use Rattle.lent.proofs.Checks.{clear≢fires, fires-same}
 use Rattle.paper.specs.declared.sizes.Sizes.{Sizes}
 use Rattle.paper.specs.declared.sizes.Run.{Run}
 use Rattle.paper.specs.declared.refusal.Refusal.{Refusal}
-use Rattle.paper.specs.declared.refusal.Refusal.the-variants.{TooShort, OldForm, UnknownForm, OutOfRange, PastEnd, BadEntry, AboveUse, SharedRecord, NoSuchSlot, EmptySlot, BadScan, NoEmptySlot, NoRoom, Disagrees, Differs, BadBlank, TooSmall}
+use Rattle.paper.specs.declared.refusal.Refusal.the-variants.{TooShort, OldForm, UnknownForm, OutOfRange, PastEnd, BadEntry, AboveUse, SharedRecord, NoSuchSlot, EmptySlot, BadScan, NoEmptySlot, NoRoom, Disagrees, Differs, BadBlank, TooSmall, NotVersionOne}
 use Rattle.paper.specs.declared.answer.Opened.{Opened}
 use Rattle.paper.specs.declared.answer.Opened.the-variants as opened
 use Rattle.paper.specs.declared.answer.Listed.the-variants as listed
@@ -29,17 +31,17 @@ use Rattle.paper.specs.declared.job.Begun.{Begun}
 use Rattle.paper.specs.declared.job.Step.{Step}
 use Rattle.paper.specs.declared.job.Step.the-variants as step
 use Rattle.paper.specs.Refusals.{numberOf, valueOf}
-use Rattle.paper.specs.Sizes.{sizesOf, startOf, capacityOf, bootChecks, Ranged}
-use Rattle.paper.specs.Index.{runOf, shownOf, badAt, aboveAt, sharedAt, indexChecks, openChecks, bootOf, indexOf, openOf}
+use Rattle.paper.specs.Sizes.{sizesOf, versionOf, startOf, capacityOf, bootChecks, Ranged}
+use Rattle.paper.specs.Index.{runOf, shownOf, badAt, aboveAt, sharedAt, indexChecks, openChecks, changeChecks, bootOf, indexOf, openOf}
 use Rattle.paper.specs.Scan.{ruledOf, classAt, classEnd, classIn, ofRuled, classOf, dataOf, startsOf, classesOf}
-use Rattle.paper.specs.Look.{listOf, listChecks, listedOf, slotChecks, noSlot, noScan, foundOf, showOf, readIn, readOf}
+use Rattle.paper.specs.Look.{listOf, listChecks, listedOf, heldChecks, slotChecks, otherScan, readChecks, noSlot, foundOf, showOf, readIn, readOf}
 use Rattle.paper.specs.Store.{blankChecks, blankSizes, blankOf, reasonOf, scanChecks, refused, saveOf, keepOf, keepSlot, clearOf}
 use Rattle.paper.specs.Step.{agrees, hasLeft, wroteOf, confirmed, confirmOf, stands, stepAnswer}
-use Rattle.paper.proofs.Opening.{boot-sound, open-index, open-refused, refused-fires, then-opens, then-refused}
+use Rattle.paper.proofs.Opening.{boot-sound, open-index, open-refused, refused-fires, then-opens, then-refused, change-old, change-look}
 use Rattle.paper.proofs.Reasons.{reason-least}
 use Rattle.sdd.specs.Face.{TakenSmall, SpanSmall, ListedSmall, StepSmall}
 
-pub number-small : (r : Refusal) → numberOf r ≤ 17
+pub number-small : (r : Refusal) → numberOf r ≤ 18
 number-small TooShort = omega arith
 number-small OldForm = omega arith
 number-small UnknownForm = omega arith
@@ -57,6 +59,7 @@ number-small Disagrees = omega arith
 number-small Differs = omega arith
 number-small BadBlank = omega arith
 number-small TooSmall = omega arith
+number-small NotVersionOne = omega arith
 
 -- ---- checks whose refusals have small values
 
@@ -97,7 +100,7 @@ open-small f r e = go (bootOf f) refl
         (index-fires z (runOf f z) r (sym (open-index f b) ∙ e))
     go (opened.Refused q) b =
         subst (λ (x : Refusal). valueOf x ≤ 4096) (same-refusal f q r (open-refused f b) e)
-        (small-fires (bootChecks f) (omega arith, (omega arith, (omega arith, (omega arith, (omega arith, tt))))) q (boot-fires f q b))
+        (small-fires (bootChecks f) (omega arith, (omega arith, (omega arith, (omega arith, tt)))) q (boot-fires f q b))
 
 then-small : (f : List ℕ) (ds : List (Check Refusal)) → AllSmall ds → (r : Refusal) → fired (openChecks f ++ ds) ≡ fires r → valueOf r ≤ 4096
 then-small f ds h r e = go (openOf f) refl
@@ -106,6 +109,15 @@ then-small f ds h r e = go (openOf f) refl
     go (opened.Opens z) o = small-fires ds h r (sym (then-opens f ds o) ∙ e)
     go (opened.Refused q) o =
         subst (λ (x : Refusal). valueOf x ≤ 4096) (fires-same _ q r (then-refused f ds o) e) (open-small f q o)
+
+-- an old file's change is refused with 2, which has no value; any other file is judged as for a look
+change-small : (f : List ℕ) (ds : List (Check Refusal)) → AllSmall ds → (r : Refusal) → fired (changeChecks f ++ ds) ≡ fires r → valueOf r ≤ 4096
+change-small f ds h r e =
+    ⊎-elim (λ (a : length f < 512). then-small f ds h r (sym (change-look f ds (λ b v. omega arith)) ∙ e))
+    (λ (a : 512 ≤ length f).
+    ⊎-elim (λ (v : versionOf f ≡ 0). subst (λ (x : Refusal). valueOf x ≤ 4096) (fires-same _ OldForm r (change-old f ds a v) e) (omega arith))
+    (λ (n : versionOf f ≢ 0). then-small f ds h r (sym (change-look f ds (λ b v. n v)) ∙ e)) (same-or (versionOf f) 0))
+    (lt-or-ge (length f) 512)
 
 -- what holds of every refusal that fires, and of the answer where none does, holds of the judgement
 judged : {A : Type 0} (P : A → Type 0) (refuse : Refusal → A) (cs : List (Check Refusal)) (a : A) → ((r : Refusal) → fired cs ≡ fires r → P (refuse r))
@@ -117,9 +129,6 @@ judged {A} P refuse cs a h k = go (fired cs) refl
     go (fires r) e = h r e
 
 -- ---- each call
-
-abbrev slotTail : List ℕ → ℕ → List (Check Refusal)
-slotTail f s = noSlot (sizesOf f) s ∷ noScan (runOf f (sizesOf f) s) ∷ []
 
 abbrev listTail : List ℕ → List ℕ → List (Check Refusal)
 listTail f out = check (ltb (length out) (3 * length (listOf f))) TooSmall ∷ []
@@ -137,7 +146,7 @@ list-small f out = judged ListedSmall listed.Refused (listChecks f out) _ (then-
 
 pub show-small : (f : List ℕ) (s : ℕ) → SpanSmall (showOf f s)
 unfolding showOf
-show-small f s = judged SpanSmall span.Refused (slotChecks f s) _ (then-small f (slotTail f s) (omega arith, (omega arith, tt))) tt
+show-small f s = judged SpanSmall span.Refused (slotChecks f s) _ (then-small f (heldChecks f s) (omega arith, (omega arith, tt))) tt
 
 read-in : (from : ℕ) (x : Ruled) → reasonOf x ≤ 6 → SpanSmall (readIn from x)
 read-in from (Keeps a b) e = tt
@@ -146,7 +155,7 @@ read-in from (Breaks n) e = omega arith
 pub read-small : (f : List ℕ) (s : ℕ) → SpanSmall (readOf f s)
 unfolding readOf
 read-small f s =
-    judged SpanSmall span.Refused (slotChecks f s) _ (then-small f (slotTail f s) (omega arith, (omega arith, tt))) (read-in (startOf (sizesOf f) (runOf f (sizesOf f) s .first)) (ruledOf (shownOf f (sizesOf f) s) false) (reason-small (shownOf f (sizesOf f) s) false))
+    judged SpanSmall span.Refused (readChecks f s) _ (then-small f (heldChecks f s ++ (otherScan f s ∷ [])) (omega arith, (omega arith, (omega arith, tt)))) (read-in (startOf (sizesOf f) (runOf f (sizesOf f) s .first)) (ruledOf (shownOf f (sizesOf f) s) false) (reason-small (shownOf f (sizesOf f) s) false))
 
 in-small : (starts : List ℤ) (n head number : ℕ) → SpanSmall (classIn starts n head number)
 unfolding classIn
@@ -166,7 +175,7 @@ data-small s = ruled-small _ (λ a b. tt) (ruledOf s false) (reason-small s fals
 
 pub found-small : (f : List ℕ) (s : ℕ) → TakenSmall (foundOf f s .answer)
 unfolding foundOf
-found-small f s = judged (λ (x : Found). TakenSmall (x .answer)) _ (slotChecks f s) _ (then-small f (slotTail f s) (omega arith, (omega arith, tt))) tt
+found-small f s = judged (λ (x : Found). TakenSmall (x .answer)) _ (slotChecks f s) _ (then-small f (heldChecks f s) (omega arith, (omega arith, tt))) tt
 
 pub blank-small : (f : List ℕ) (n l m : ℕ) → TakenSmall (blankOf f n l m)
 unfolding blankOf
@@ -177,15 +186,15 @@ scan-small f scan = (omega (arith, reason-small scan true), (omega arith, tt))
 
 pub save-small : (f : List ℕ) (slot : ℕ) (scan about : List ℕ) → TakenSmall (saveOf f slot scan about .answer)
 unfolding saveOf
-save-small f slot scan about = judged (λ (x : Begun). TakenSmall (x .answer)) refused (openChecks f ++ (noSlot (sizesOf f) slot ∷ scanChecks f scan)) _ (then-small f (noSlot (sizesOf f) slot ∷ scanChecks f scan) (omega arith, scan-small f scan)) tt
+save-small f slot scan about = judged (λ (x : Begun). TakenSmall (x .answer)) refused (changeChecks f ++ (noSlot (sizesOf f) slot ∷ scanChecks f scan)) _ (change-small f (noSlot (sizesOf f) slot ∷ scanChecks f scan) (omega arith, scan-small f scan)) tt
 
 pub keep-small : (f scan about : List ℕ) → TakenSmall (keepOf f scan about .answer)
 unfolding keepOf
-keep-small f scan about = judged (λ (x : Begun). TakenSmall (x .answer)) refused (openChecks f ++ (check (eqb (keepSlot f) 0) NoEmptySlot ∷ scanChecks f scan)) _ (then-small f (check (eqb (keepSlot f) 0) NoEmptySlot ∷ scanChecks f scan) (omega arith, scan-small f scan)) tt
+keep-small f scan about = judged (λ (x : Begun). TakenSmall (x .answer)) refused (changeChecks f ++ (check (eqb (keepSlot f) 0) NoEmptySlot ∷ scanChecks f scan)) _ (change-small f (check (eqb (keepSlot f) 0) NoEmptySlot ∷ scanChecks f scan) (omega arith, scan-small f scan)) tt
 
 pub clear-small : (f : List ℕ) (slot : ℕ) → TakenSmall (clearOf f slot .answer)
 unfolding clearOf
-clear-small f slot = judged (λ (x : Begun). TakenSmall (x .answer)) refused (slotChecks f slot) _ (then-small f (slotTail f slot) (omega arith, (omega arith, tt))) tt
+clear-small f slot = judged (λ (x : Begun). TakenSmall (x .answer)) refused (changeChecks f ++ heldChecks f slot) _ (change-small f (heldChecks f slot) (omega arith, (omega arith, tt))) tt
 
 either-way : (P : Step → Type 0) (t : Bool) (a b : Step) → P a → P b → P (cond t a b)
 either-way P true a b x y = x

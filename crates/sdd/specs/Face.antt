@@ -55,9 +55,10 @@ openedC len (opened.Opens z) =
       kind = z .kind;
       capacity = capacityOf z;
       room = roomOf z len;
+      version = z .version;
     }
 openedC len (opened.Refused r) =
-    record { why = whyOf r; n = 0; d = 0; l = 0; m = 0; u = 0; counter = 0; kind = 0; capacity = 0; room = 0 }
+    record { why = whyOf r; n = 0; d = 0; l = 0; m = 0; u = 0; counter = 0; kind = 0; capacity = 0; room = 0; version = 0 }
 
 abbrev pub listedC : Listed → CListed
 listedC (listed.Scans n) = record { why = none; scans = n }
@@ -85,6 +86,7 @@ foundC f =
       mode = f .entry .mode;
       number = f .entry .number;
       position = f .entry .position;
+      magic = f .entry .magic;
       kind = kindSays (f .entry .kind) .number;
       single = kindSays (f .entry .kind) .single;
       double = kindSays (f .entry .kind) .double;

@@ -19,6 +19,8 @@ pub struct COpened {
     pub kind: u64,
     pub capacity: u64,
     pub room: u64,
+    // 0 old, 1 current.
+    pub version: u64,
 }
 
 #[repr(C)]
@@ -50,6 +52,7 @@ pub struct CEntry {
     pub mode: i16,
     pub number: i16,
     pub position: i16,
+    pub magic: i16,
     pub kind: u16,
     pub single: f32,
     pub double: f64,

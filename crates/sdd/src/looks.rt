@@ -34,6 +34,7 @@ pub extern "C" fn sdd_open(file: &[u8]) -> COpened
             kind: z.kind as u64,
             capacity: z.capacity() as u64,
             room: z.room(file.len()) as u64,
+            version: z.version as u64,
         },
         Opened::Refused(r) => COpened {
             why: why(r),
@@ -46,6 +47,7 @@ pub extern "C" fn sdd_open(file: &[u8]) -> COpened
             kind: 0,
             capacity: 0,
             room: 0,
+            version: 0,
         },
     }
 }
@@ -92,6 +94,7 @@ pub extern "C" fn sdd_entry_at(file: &[u8], slot: u64) -> CEntry
         mode: e.mode,
         number: e.number,
         position: e.position,
+        magic: e.magic,
         kind: kinds::number(k),
         single: kinds::single(k),
         double: kinds::double(k),

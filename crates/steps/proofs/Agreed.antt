@@ -1,6 +1,6 @@
 -- The groups of tests of refusal 14 together are the definition's, and what agreement gives the writes.
 use Prim.Native.Nat.{ℕ, _+_, _*_, _/_, _≤_, _<_}
-use mathlib.Core.Path.{_≡_, sym, ap, subst}
+use mathlib.Core.Path.{_≡_, sym, _∙_, ap, subst}
 use mathlib.Core.Bool.{Bool, true, false, cond}
 use mathlib.Core.Logic.{⊎-elim}
 use mathlib.Core.List.{List}
@@ -12,7 +12,7 @@ use Rattle.lent.proofs.Lists.{All, all-true, true-all, true≢false, either, as
 use Rattle.lent.proofs.Sames.{same-true, true-same}
 use Rattle.paper.specs.declared.sizes.Sizes.{Sizes}
 use Rattle.paper.specs.declared.job.Job.{Job}
-use Rattle.paper.specs.Sizes.{sizesOf, roomOf, Shaped}
+use Rattle.paper.specs.Sizes.{sizesOf, versionOf, roomOf, Shaped}
 use Rattle.paper.specs.Index.{Booted}
 use Rattle.paper.specs.Store.{recordsFor, countOf}
 use Rattle.paper.specs.Look.{slotTests}
@@ -43,11 +43,15 @@ module _ (f : List ℕ) (z : Sizes) where
   unfolding bootHolds
   holds-boot e h =
       let t = all-true (bootTests f z) h in
-      record { reads = sym e; long = leb-true _ _ (t .0); version = eqb-true _ _ (t .1 .0); ranged = range-facts z (t .1 .1 .0); held = leb-true _ _ (t .1 .1 .1 .0) }
+      record { reads = sym e; long = leb-true _ _ (t .0); version = omega (arith, eqb-true (versionOf f) 1 (t .1 .0)); ranged = range-facts z (t .1 .1 .0); held = leb-true _ _ (t .1 .1 .1 .0) }
 
-  boot-holds : Booted f z → bootHolds f z ≡ true
+  holds-current : z ≡ sizesOf f → bootHolds f z ≡ true → z .version ≡ 1
   unfolding bootHolds
-  boot-holds b = true-all (bootTests f z) (le-leb _ _ (b .long), (eq-eqb _ _ (b .version), (facts-range z (b .ranged), (le-leb _ _ (b .held), tt))))
+  holds-current e h = ap (λ (y : Sizes). y .version) e ∙ eqb-true _ _ (all-true (bootTests f z) h .1 .0)
+
+  boot-holds : Booted f z → z .version ≡ 1 → bootHolds f z ≡ true
+  unfolding bootHolds
+  boot-holds b v = true-all (bootTests f z) (le-leb _ _ (b .long), (eq-eqb _ _ (ap (λ (y : Sizes). y .version) (b .reads) ∙ v), (facts-range z (b .ranged), (le-leb _ _ (b .held), tt))))
 
 module _ (f scan : List ℕ) (j : Job) (z : Sizes) where
   -- each group holds where job and file agree
@@ -75,7 +79,7 @@ module _ (f scan : List ℕ) (j : Job) (z : Sizes) where
     other-file e = refused (λ a. true≢false (file-same a) e)
 
     pub other-boot : bootHolds f z ≡ false → false ≡ agrees f scan j
-    other-boot e = refused (λ a. true≢false (boot-holds f z (a .booted)) e)
+    other-boot e = refused (λ a. true≢false (boot-holds f z (a .booted) (a .current)) e)
 
     pub other-slot : hasSlot z (j .slot) ≡ false → false ≡ agrees f scan j
     other-slot e = refused (λ a. true≢false (slot-there a) e)
@@ -97,6 +101,7 @@ module _ (f scan : List ℕ) (j : Job) (z : Sizes) where
         let v : j .saves ≡ true → All (fitTests z (length f) j) = λ e. all-true (fitTests z (length f) j) (asked _ _ r e) in
         sym (agreeing f scan j z (record {
           booted = holds-boot f z reads b;
+          current = holds-current f z reads b;
           size = size;
           span = eqb-true _ _ (t .1 .0);
           begun = same-true _ _ (t .1 .1 .0);

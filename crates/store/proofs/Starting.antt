@@ -18,11 +18,11 @@ use Rattle.paper.specs.declared.answer.Opened.{Opened}
 use Rattle.paper.specs.declared.answer.Opened.the-variants.{Opens, Refused}
 use Rattle.paper.specs.declared.job.Begun.{Begun}
 use Rattle.paper.specs.Sizes.{sizesOf, Shaped}
-use Rattle.paper.specs.Index.{runOf, empty, openChecks, openOf}
+use Rattle.paper.specs.Index.{runOf, empty, changeChecks, changeOf}
 use Rattle.paper.specs.Look.{noSlot, noScan}
 use Rattle.paper.specs.Scan.{ruledOf}
 use Rattle.paper.specs.Store.{savesAt, recordsFor, freePlace, emptySlot, refused, accepted, placeFor, saveJob, clearJob, reasonOf, scanChecks, saveOf, keepSlot, keepOf, clearOf}
-use Rattle.paper.proofs.Opening.{open-reads, then-refused, then-opens}
+use Rattle.paper.proofs.Opening.{change-reads, change-then-refused, change-then-opens}
 use Rattle.paper.proofs.Rules.{keeps-lengths}
 use Rattle.paper.proofs.Reasons.{no-reason}
 use Rattle.steps.specs.Tests.{hasSlot}
@@ -39,12 +39,12 @@ passes-first : (t : Bool) (r : Refusal) (cs : List (Check Refusal)) (a : Begun) 
 passes-first t r cs a e = rw e
 
 -- 1 to 8
-module _ (f : List ℕ) (o : Opened) (is : o ≡ openOf f) (ds : List (Check Refusal)) (a : Begun) where
-  out : (r : Refusal) (x : Begun) → o ≡ Refused r → x ≡ refusedBy o → x ≡ judge refused (openChecks f ++ ds) a
-  out r x q p = p ∙ ap refusedBy q ∙ sym (judge-fires refused (openChecks f ++ ds) a r (then-refused f ds (sym is ∙ q)))
+module _ (f : List ℕ) (o : Opened) (is : o ≡ changeOf f) (ds : List (Check Refusal)) (a : Begun) where
+  out : (r : Refusal) (x : Begun) → o ≡ Refused r → x ≡ refusedBy o → x ≡ judge refused (changeChecks f ++ ds) a
+  out r x q p = p ∙ ap refusedBy q ∙ sym (judge-fires refused (changeChecks f ++ ds) a r (change-then-refused f ds (sym is ∙ q)))
 
-  on : (z : Sizes) → o ≡ Opens z → judge refused ds a ≡ judge refused (openChecks f ++ ds) a
-  on z q = sym (ap (answer refused a) (then-opens f ds (sym is ∙ q)))
+  on : (z : Sizes) → o ≡ Opens z → judge refused ds a ≡ judge refused (changeChecks f ++ ds) a
+  on z q = sym (ap (answer refused a) (change-then-opens f ds (sym is ∙ q)))
 
 -- 11, then 13
 module _ (f : List ℕ) (slot : ℕ) (scan about : List ℕ) (n : ℕ) (why : n ≡ reasonOf (ruledOf scan true)) where
@@ -65,10 +65,10 @@ module _ (f : List ℕ) (slot : ℕ) (scan about : List ℕ) (n : ℕ) (why : n 
   good-scan h = passes-first _ _ roomCheck job (le-ltb 0 (reasonOf (ruledOf scan true)) (omega arith))
 
   -- the place that was found
-  module _ (z : Sizes) (opens : openOf f ≡ Opens z) (first : ℕ) (found : first ≡ freePlace z (length f) (runOf f z) (recordsFor z (length scan))) (h : n ≤ 0) where
+  module _ (z : Sizes) (opens : changeOf f ≡ Opens z) (first : ℕ) (found : first ≡ freePlace z (length f) (runOf f z) (recordsFor z (length scan))) (h : n ≤ 0) where
     place-is : first ≡ placeFor f (length scan)
     place-is =
-        found ∙ sym (ap (λ (y : Sizes). freePlace y (length f) (runOf f y) (recordsFor y (length scan))) (open-reads f opens))
+        found ∙ sym (ap (λ (y : Sizes). freePlace y (length f) (runOf f y) (recordsFor y (length scan))) (change-reads f opens))
 
     pub no-place : (x : Begun) → first ≡ 0 → x ≡ refused NoRoom → x ≡ placedOf f slot scan about
     no-place x e p = p ∙ fires-first _ _ [] job (eq-eqb _ _ (sym place-is ∙ e)) ∙ good-scan h
@@ -87,9 +87,9 @@ module _ (f : List ℕ) (slot : ℕ) (scan about : List ℕ) (n : ℕ) (why : n 
       (omega (arith, l .long), omega (arith, l .long, l .short refl))
 
 -- 9, at the sizes that the file opens with
-module _ (f : List ℕ) (slot : ℕ) (z : Sizes) (opens : openOf f ≡ Opens z) where
+module _ (f : List ℕ) (slot : ℕ) (z : Sizes) (opens : changeOf f ≡ Opens z) where
   slot-test : (b : Bool) → hasSlot z slot ≡ b → hasSlot (sizesOf f) slot ≡ b
-  slot-test b e = ap (λ (y : Sizes). hasSlot y slot) (open-reads f opens) ∙ e
+  slot-test b e = ap (λ (y : Sizes). hasSlot y slot) (change-reads f opens) ∙ e
 
   no-slot : (cs : List (Check Refusal)) (a : Begun) → hasSlot z slot ≡ false → refused NoSuchSlot ≡ judge refused (noSlot (sizesOf f) slot ∷ cs) a
   unfolding hasSlot
@@ -99,7 +99,7 @@ module _ (f : List ℕ) (slot : ℕ) (z : Sizes) (opens : openOf f ≡ Opens z) 
   unfolding hasSlot
   slot-passed cs a e = passes-first _ _ cs a (ap not (slot-test true e))
 
-module _ (f : List ℕ) (slot : ℕ) (scan about : List ℕ) (o : Opened) (is : o ≡ openOf f) (x : Begun) where
+module _ (f : List ℕ) (slot : ℕ) (scan about : List ℕ) (o : Opened) (is : o ≡ changeOf f) (x : Begun) where
   abbrev saveChecks : List (Check Refusal)
   saveChecks = noSlot (sizesOf f) slot ∷ scanChecks f scan
 
@@ -117,7 +117,7 @@ module _ (f : List ℕ) (slot : ℕ) (scan about : List ℕ) (o : Opened) (is : 
   save-on z q e p =
       p ∙ slot-passed f slot z (sym is ∙ q) (scanChecks f scan) _ e ∙ on f o is saveChecks (accepted (saveJob f slot scan about)) z q
 
-module _ (f scan about : List ℕ) (o : Opened) (is : o ≡ openOf f) (x : Begun) where
+module _ (f scan about : List ℕ) (o : Opened) (is : o ≡ changeOf f) (x : Begun) where
   abbrev keepChecks : List (Check Refusal)
   keepChecks = check (eqb (keepSlot f) 0) NoEmptySlot ∷ scanChecks f scan
 
@@ -130,7 +130,7 @@ module _ (f scan about : List ℕ) (o : Opened) (is : o ≡ openOf f) (x : Begun
 
   module _ (z : Sizes) (q : o ≡ Opens z) (slot : ℕ) (lowest : slot ≡ emptySlot z (runOf f z)) where
     slot-is : slot ≡ keepSlot f
-    slot-is = lowest ∙ sym (ap (λ (y : Sizes). emptySlot y (runOf f y)) (open-reads f (sym is ∙ q)))
+    slot-is = lowest ∙ sym (ap (λ (y : Sizes). emptySlot y (runOf f y)) (change-reads f (sym is ∙ q)))
 
     pub keep-none : slot ≡ 0 → x ≡ refused NoEmptySlot → x ≡ keepOf f scan about
     unfolding keepOf
@@ -142,11 +142,11 @@ module _ (f scan about : List ℕ) (o : Opened) (is : o ≡ openOf f) (x : Begun
         p ∙ ap (λ (s : ℕ). judge refused (scanChecks f scan) (accepted (saveJob f s scan about))) slot-is
         ∙ passes-first _ _ (scanChecks f scan) keepJob (ne-eqb _ _ (λ n. e (slot-is ∙ n))) ∙ on f o is keepChecks keepJob z q
 
-pub goal-out : (f : List ℕ) (g : Goal) (scan about : List ℕ) (o : Opened) → o ≡ openOf f → (x : Begun) (r : Refusal) → o ≡ Refused r → x ≡ refusedBy o → x ≡ begunOf f g scan about
+pub goal-out : (f : List ℕ) (g : Goal) (scan about : List ℕ) (o : Opened) → o ≡ changeOf f → (x : Begun) (r : Refusal) → o ≡ Refused r → x ≡ refusedBy o → x ≡ begunOf f g scan about
 goal-out f (Slot s) scan about o is x r q p = save-out f s scan about o is x r q p
 goal-out f LowestEmpty scan about o is x r q p = keep-out f scan about o is x r q p
 
-module _ (f : List ℕ) (slot : ℕ) (o : Opened) (is : o ≡ openOf f) (x : Begun) where
+module _ (f : List ℕ) (slot : ℕ) (o : Opened) (is : o ≡ changeOf f) (x : Begun) where
   abbrev clearChecks : List (Check Refusal)
   clearChecks = noSlot (sizesOf f) slot ∷ noScan (runOf f (sizesOf f) slot) ∷ []
 
@@ -164,7 +164,7 @@ module _ (f : List ℕ) (slot : ℕ) (o : Opened) (is : o ≡ openOf f) (x : Beg
 
     empty-is : (a : Run) (b t : Bool) → a ≡ runOf f z slot → b ≡ empty a → b ≡ t → empty (runOf f (sizesOf f) slot) ≡ t
     empty-is a b t r e h =
-        ap (λ (y : Sizes). empty (runOf f y slot)) (open-reads f (sym is ∙ q)) ∙ sym (ap empty r) ∙ sym e ∙ h
+        ap (λ (y : Sizes). empty (runOf f y slot)) (change-reads f (sym is ∙ q)) ∙ sym (ap empty r) ∙ sym e ∙ h
 
     module _ (slotted : hasSlot z slot ≡ true) (a : Run) (run : a ≡ runOf f z slot) (b : Bool) (test : b ≡ empty a) where
       pub clear-empty : b ≡ true → x ≡ refused EmptySlot → x ≡ clearOf f slot

@@ -9,15 +9,20 @@ use Rattle.paper.specs.declared.refusal.Refusal.the-variants.{TooShort}
 use Rattle.paper.specs.declared.answer.Opened.{Opened}
 use Rattle.paper.specs.declared.answer.Opened.the-variants.{Opens, Refused}
 use Rattle.paper.specs.declared.job.Begun.{Begun}
-use Rattle.paper.specs.Index.{openOf}
+use Rattle.paper.specs.Index.{changeBootOf, changeOf, Booted}
 use Rattle.paper.specs.Store.{refused, accepted, scanChecks, saveJob, saveOf, keepOf}
 use Rattle.index.specs.Judging.{Looked}
 use Rattle.store.specs.declared.judged.Goal.{Goal}
 use Rattle.store.specs.declared.judged.Goal.the-variants.{Slot, LowestEmpty}
 
--- a file that opens, the row that holds its runs, and the marks that may show their records
+-- a file that may be changed, as far as its bootstrap tells
+pub record Headed (f : List ℕ) (z : Sizes) : Type 0 where
+  pub may : changeBootOf f ≡ Opens z
+  pub booted : Booted f z
+
+-- a file that may be changed, the row that holds its runs, and the marks that may show their records
 pub record Rowing (f : List ℕ) (z : Sizes) (row ws : List ℕ) : Type 0 where
-  pub opens : openOf f ≡ Opens z
+  pub opens : changeOf f ≡ Opens z
   pub looked : Looked f z row ws (Opens z)
   pub wide : 2 * z .u ≤ length row
 

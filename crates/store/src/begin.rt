@@ -160,7 +160,7 @@ pub fn keep_at(
 pub fn cleared(file: &[u8], slot: usize) -> Begun
     ensures { λ b. ⌜ b ≡ clearOf (now (file .entry)) slot ⌝ }
 {
-    let o = index::judge(file);
+    let o = index::change::judge(file);
     let Opened::Opens(z) = o else {
         return handed_on(o);
     };

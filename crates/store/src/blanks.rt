@@ -32,6 +32,7 @@ pub fn blanked(file: &mut [u8], n: usize, l: usize, m: usize) -> Taken
         u: 0,
         counter: 0,
         kind: 0,
+        version: 1,
     };
     if !fits(file.len(), z) {
         return Taken::Refused(Refusal::BadBlank);

@@ -7,9 +7,8 @@ ghost use mathlib.Core.Path.{_≡_};
 ghost use Prim.Native.Nat.{_*_, _+_, _≤_, _<_};
 ghost use lib.ListN.{length};
 ghost use Rattle.marks.specs.Marks.{Clear};
-ghost use Rattle.paper.specs.Index.{Booted};
 ghost use Rattle.index.specs.Judging.{Reach};
-ghost use Rattle.store.specs.Beginning.{Rowing, begunOf};
+ghost use Rattle.store.specs.Beginning.{Headed, Rowing, begunOf};
 
 // Where the scan goes: to a slot that is named, or to the lowest empty one.
 pub enum Goal {
@@ -45,7 +44,7 @@ fn judged(
     row: &mut [u32],
     marks: &mut [u64],
 ) -> Begun
-    requires { ⌜ Booted (now file) z ⌝ }
+    requires { ⌜ Headed (now file) z ⌝ }
     requires { ⌜ 2 * z .u ≤ length (now row) ⌝ }
     requires { ⌜ Reach z (now marks) × Clear (now marks) ⌝ }
     ensures { λ b. ⌜ b ≡ begunOf (now (file .entry)) goal (now (scan .entry)) about ⌝ }
@@ -66,7 +65,7 @@ fn marks_small(
     about: [u8; 54],
     row: &mut [u32],
 ) -> Begun
-    requires { ⌜ Booted (now file) z ⌝ }
+    requires { ⌜ Headed (now file) z ⌝ }
     requires { ⌜ (2 * z .u ≤ length (now row)) × (z .n + z .d < 16384) ⌝ }
     ensures { λ b. ⌜ b ≡ begunOf (now (file .entry)) goal (now (scan .entry)) about ⌝ }
 {
@@ -82,7 +81,7 @@ fn marks_large(
     about: [u8; 54],
     row: &mut [u32],
 ) -> Begun
-    requires { ⌜ Booted (now file) z ⌝ }
+    requires { ⌜ Headed (now file) z ⌝ }
     requires { ⌜ 2 * z .u ≤ length (now row) ⌝ }
     ensures { λ b. ⌜ b ≡ begunOf (now (file .entry)) goal (now (scan .entry)) about ⌝ }
 {
@@ -91,7 +90,7 @@ fn marks_large(
 }
 
 fn marked(file: &[u8], z: Sizes, goal: Goal, scan: &[u8], about: [u8; 54], row: &mut [u32]) -> Begun
-    requires { ⌜ Booted (now file) z ⌝ }
+    requires { ⌜ Headed (now file) z ⌝ }
     requires { ⌜ 2 * z .u ≤ length (now row) ⌝ }
     ensures { λ b. ⌜ b ≡ begunOf (now (file .entry)) goal (now (scan .entry)) about ⌝ }
 {
@@ -103,7 +102,7 @@ fn marked(file: &[u8], z: Sizes, goal: Goal, scan: &[u8], about: [u8; 54], row: 
 
 // A row for 1,024 slots, likewise.
 fn row_small(file: &[u8], z: Sizes, goal: Goal, scan: &[u8], about: [u8; 54]) -> Begun
-    requires { ⌜ Booted (now file) z ⌝ }
+    requires { ⌜ Headed (now file) z ⌝ }
     requires { ⌜ z .u ≤ 1024 ⌝ }
     ensures { λ b. ⌜ b ≡ begunOf (now (file .entry)) goal (now (scan .entry)) about ⌝ }
 {
@@ -112,18 +111,18 @@ fn row_small(file: &[u8], z: Sizes, goal: Goal, scan: &[u8], about: [u8; 54]) ->
 }
 
 fn row_large(file: &[u8], z: Sizes, goal: Goal, scan: &[u8], about: [u8; 54]) -> Begun
-    requires { ⌜ Booted (now file) z ⌝ }
+    requires { ⌜ Headed (now file) z ⌝ }
     ensures { λ b. ⌜ b ≡ begunOf (now (file .entry)) goal (now (scan .entry)) about ⌝ }
 {
     let mut row = [0u32; 8192];
     marked(file, z, goal, scan, about, &mut row)
 }
 
-// The bootstrap says how long row and marks have to be.
+// The bootstrap says how long row and marks have to be. An old file goes no further.
 pub fn begun(file: &[u8], goal: Goal, scan: &[u8], about: [u8; 54]) -> Begun
     ensures { λ b. ⌜ b ≡ begunOf (now (file .entry)) goal (now (scan .entry)) about ⌝ }
 {
-    let o = bootstrap::judge::boot(file);
+    let o = bootstrap::change::boot(file);
     let Opened::Opens(z) = o else {
         return begin::handed_on(o);
     };

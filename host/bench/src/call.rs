@@ -1,7 +1,7 @@
 //! The calls that are measured, as the library and plain Rust make them.
 
 use crate::file::{File, L, M};
-use face::{Calls, Job, Stepped};
+use face::{Calls, Job, Opened, Stepped};
 use std::fmt;
 use std::hint::black_box;
 use std::ptr::null;
@@ -121,6 +121,12 @@ impl Stage {
                 }
             }
         }
+    }
+
+    /// What an open answers.
+    pub fn opened(&self, calls: &Calls) -> Opened {
+        // SAFETY: as in `make`.
+        unsafe { (calls.open)(self.file.map.pointer(), self.file.map.size()) }
     }
 
     /// A save from its beginning to its last step's answer.

@@ -2,7 +2,7 @@
 
 use crate::call::{Call, Stage};
 use crate::clock::{Contender, Spread, contest, turns};
-use crate::file::{File, L, Plan};
+use crate::file::{File, Form, L, Plan};
 use crate::limit;
 use std::cell::RefCell;
 use std::time::Duration;
@@ -32,10 +32,11 @@ pub struct Times {
 impl Case {
     /// The file, in words.
     pub fn file(&self) -> String {
-        let Plan { slots, used, run, order, room, .. } = self.plan;
+        let Plan { slots, used, run, order, room, form, .. } = self.plan;
+        let old = if form == Form::Old { "old, " } else { "" };
         let runs = if used == 0 { "empty".to_string() } else { format!("{used} used {order}, runs of {run}") };
         let shares = if self.shares { ", refused 8" } else { "" };
-        format!("{slots} slots, {runs}{shares}, {room} records")
+        format!("{old}{slots} slots, {runs}{shares}, {room} records")
     }
 
     /// Call and file.
@@ -52,7 +53,8 @@ impl Case {
         }
     }
 
-    fn stage(&self) -> Stage {
+    /// The file, and what the call needs beside it.
+    pub fn stage(&self) -> Stage {
         let file = File::new(self.plan);
         Stage::new(if self.shares { file.share() } else { file }, self.call)
     }
@@ -61,6 +63,7 @@ impl Case {
     pub fn run(&self, budget: Duration) -> Times {
         let (library, plain) = (sdd::calls(), plain::calls());
         let mut stage = self.stage();
+        assert_eq!(stage.opened(&library), stage.opened(&plain), "{}: the two do not do the same", self.name());
         let place = (stage.free_place(&plain).max(1) - 1) * L;
         let copied = if matches!(self.call, Call::Save(_)) { stage.scan.clone() } else { Vec::new() };
         let mut row = vec![0u32; 2 * self.plan.slots];
@@ -72,7 +75,7 @@ impl Case {
                 let mut stage = stage.borrow_mut();
                 let file = stage.file.map.bytes();
                 for _ in 0..self.judgements() {
-                    limit::decode(file, self.plan.slots, &mut row);
+                    limit::decode(file, self.plan.form, self.plan.slots, &mut row);
                 }
                 match self.call {
                     Call::Blank => file[..self.plan.n() * L].fill(0),

@@ -2,8 +2,8 @@
 //! process, so this runs in a process of its own.
 
 use crate::call::{Call, Stage};
-use crate::file::{File, L, Order, Plan};
-use crate::suite::MOST;
+use crate::file::{File, Form, L, Order, Plan};
+use crate::suite::{self, MOST, OLD_RUN};
 use face::Calls;
 use std::process::Command;
 
@@ -11,12 +11,18 @@ use std::process::Command;
 pub const WORD: &str = "--closed";
 
 fn stage(call: Call, order: Order) -> Stage {
-    Stage::new(File::new(Plan { slots: 4096, used: 4000, run: 128, gap: 1, order, room: MOST }), call)
+    let plan = Plan { slots: 4096, used: 4000, run: 128, gap: 1, order, room: MOST, form: Form::Current };
+    Stage::new(File::new(plan), call)
+}
+
+/// The same in the old form.
+fn old_stage(call: Call, order: Order) -> Stage {
+    Stage::new(File::new(Plan { used: 4000, ..suite::old(order, OLD_RUN) }), call)
 }
 
 /// All data records.
 fn close_data(stage: &Stage) {
-    stage.file.map.close(stage.file.plan.n() * L..MOST * L);
+    stage.file.map.close(stage.file.plan.n() * L..stage.file.map.size());
 }
 
 /// Makes every call with closed pages: all data records for the calls that need none of them, all but the first of its
@@ -39,17 +45,27 @@ pub fn make(calls: &Calls) {
             close_data(&stage);
             stage.make(calls, call);
         }
-        let mut reads = stage(Call::Read, order);
-        let (first, _) = reads.file.run(reads.file.middle());
-        close_data(&reads);
-        reads.file.map.open((first - 1) * L..first * L);
-        reads.make(calls, Call::Read);
+        read(calls, stage(Call::Read, order));
+        for call in [Call::Open, Call::List, Call::Entry, Call::Show] {
+            let mut stage = old_stage(call, order);
+            close_data(&stage);
+            stage.make(calls, call);
+        }
+        read(calls, old_stage(Call::Read, order));
         let mut saves = stage(Call::Save(65_536), order);
         let place = (saves.free_place(calls) - 1) * L;
         close_data(&saves);
         saves.file.map.open(place..place + 65_536);
         saves.make(calls, Call::Save(65_536));
     }
+}
+
+/// A read with all records closed but the first of its own.
+fn read(calls: &Calls, mut stage: Stage) {
+    let (first, _) = stage.file.run(stage.file.middle());
+    close_data(&stage);
+    stage.file.map.open((first - 1) * L..first * L);
+    stage.make(calls, Call::Read);
 }
 
 /// Whether this program, at `path`, comes through that.

@@ -7,6 +7,26 @@ use std::fmt;
 pub const L: usize = 512;
 pub const M: usize = 64;
 
+/// Which bootstrap and index a file has.
+#[derive(Clone, Copy, Debug, PartialEq, Eq)]
+pub enum Form {
+    Old,
+    Current,
+}
+
+impl Form {
+    /// Both.
+    pub const ALL: [Form; 2] = [Form::Old, Form::Current];
+
+    /// Bytes of a word of the bootstrap, and of an entry's first and last.
+    pub fn word(self) -> usize {
+        match self {
+            Form::Old => 2,
+            Form::Current => 4,
+        }
+    }
+}
+
 /// How the runs of the slots follow each other.
 #[derive(Clone, Copy, Debug, PartialEq, Eq)]
 pub enum Order {
@@ -50,6 +70,7 @@ pub struct Plan {
     pub order: Order,
     /// The records that the lent memory has room for.
     pub room: usize,
+    pub form: Form,
 }
 
 impl Plan {
@@ -89,16 +110,16 @@ impl File {
             let first = n + 1 + plan.place(&dice, slot) * (plan.run + plan.gap);
             let last = first + plan.run - 1;
             highest = highest.max(last);
+            put_run(bytes, plan.form, slot, first, last);
             let entry = &mut bytes[L + (slot - 1) * M..][..M];
-            put32(entry, 0, first);
-            put32(entry, 4, last);
             entry[16..32].copy_from_slice(b"ORION A         ");
             entry[56..58].copy_from_slice(&520u16.to_be_bytes());
         }
         assert!(highest <= plan.room, "no room for {plan:?}");
-        for (i, number) in [n, highest - n, L, M, plan.used, 7, 0, 1].into_iter().enumerate() {
-            put32(bytes, 4 * i, number);
+        for (i, number) in [n, highest - n, L, M, plan.used, 7].into_iter().enumerate() {
+            put(bytes, plan.form, plan.form.word() * i, number);
         }
+        bytes[31] = u8::from(plan.form == Form::Current);
         let mut file = File { plan, map };
         if plan.used > 0 {
             let (first, last) = file.run(file.middle());
@@ -115,24 +136,39 @@ impl File {
 
     /// First and last record of a slot.
     pub fn run(&mut self, slot: usize) -> (usize, usize) {
-        let at = L + (slot - 1) * M;
-        let bytes = self.map.bytes();
-        let word = |at: usize| u32::from_be_bytes(bytes[at..at + 4].try_into().unwrap()) as usize;
-        (word(at), word(at + 4))
+        let size = self.plan.form.word();
+        let entry = &self.map.bytes()[L + (slot - 1) * M..];
+        let word = |bytes: &[u8]| bytes.iter().fold(0, |word, byte| word << 8 | usize::from(*byte));
+        (word(&entry[..size]), word(&entry[size..2 * size]))
     }
 
     /// Makes the last slot in use share a record with the first one.
     pub fn share(mut self) -> File {
         let (first, last) = self.run(1);
-        let at = L + (self.plan.used - 1) * M;
-        put32(self.map.bytes(), at, first);
-        put32(self.map.bytes(), at + 4, last);
+        put_run(self.map.bytes(), self.plan.form, self.plan.used, first, last);
         self
     }
 }
 
-fn put32(bytes: &mut [u8], at: usize, number: usize) {
-    bytes[at..at + 4].copy_from_slice(&(number as u32).to_be_bytes());
+/// Puts a word of the form.
+fn put(bytes: &mut [u8], form: Form, at: usize, number: usize) {
+    match form {
+        Form::Old => {
+            let number = i16::try_from(number).expect("an old file has no such number");
+            bytes[at..at + 2].copy_from_slice(&number.to_be_bytes());
+        }
+        Form::Current => bytes[at..at + 4].copy_from_slice(&(number as u32).to_be_bytes()),
+    }
+}
+
+/// Puts a slot's first and last, and of an old one that its scan is version 1.
+fn put_run(bytes: &mut [u8], form: Form, slot: usize, first: usize, last: usize) {
+    let at = L + (slot - 1) * M;
+    put(bytes, form, at, first);
+    put(bytes, form, at + form.word(), last);
+    if form == Form::Old {
+        put(bytes, form, at + 4, 2);
+    }
 }
 
 /// 0 to `n` - 1 in random order.

@@ -2,11 +2,14 @@
 
 use crate::call::{Call, Stage};
 use crate::clock::{Contender, contest, turns};
-use crate::file::{File, Order, Plan};
+use crate::file::{File, Form, Order, Plan};
 use crate::limit;
-use crate::suite::MOST;
+use crate::suite::{MOST, OLD_MOST, OLD_RUN};
 use face::Calls;
 use std::time::Duration;
+
+/// How many slots growth is measured with.
+const SLOTS: [usize; 5] = [256, 512, 1024, 2048, 4096];
 
 /// A scan that goes past every gap.
 const LONG: Call = Call::BeginSave(65_536);
@@ -51,25 +54,29 @@ fn decoding(plans: &[Plan], budget: Duration) -> Vec<f64> {
         .iter_mut()
         .map(|file| {
             let mut row = vec![0; 2 * file.plan.slots];
-            turns(move || limit::decode(file.map.bytes(), file.plan.slots, &mut row))
+            turns(move || limit::decode(file.map.bytes(), Form::Current, file.plan.slots, &mut row))
         })
         .collect();
     contest(&mut contenders, budget)
 }
 
 /// The lines of one kind of growth, for files of these plans. The free place is what a save's beginning takes beyond an
-/// open.
+/// open; an old file is only looked at.
 fn lines(who: &str, calls: &Calls, plans: &[Plan], by: &'static str, budget: Duration) -> Vec<Growth> {
     let sizes: Vec<usize> = plans.iter().map(|plan| if by == "slots" { plan.slots } else { plan.room }).collect();
-    let order = plans[0].order;
+    let Plan { order, form, .. } = plans[0];
+    let old = if form == Form::Old { ", old" } else { "" };
     let line = |name: &str, times: Vec<f64>| Growth {
-        what: format!("{who}: {name}, {order}"),
+        what: format!("{who}: {name}, {order}{old}"),
         by,
         sizes: sizes.clone(),
         times,
     };
     let open = times(calls, Call::Open, plans, budget);
     let list = times(calls, Call::List, plans, budget);
+    if form == Form::Old {
+        return vec![line("open", open), line("list", list)];
+    }
     let begin = times(calls, LONG, plans, budget);
     let place = begin.iter().zip(&open).map(|(begin, open)| begin - open).collect();
     vec![line("open", open), line("list", list), line("save's beginning", begin), line("free place", place)]
@@ -81,18 +88,26 @@ pub fn with_slots(who: &str, calls: &Calls, budget: Duration) -> Vec<Growth> {
     let mut all = Vec::new();
     for order in [Order::Rising, Order::Random, Order::Falling] {
         all.extend(lines(who, calls, &slot_plans(order), "slots", budget));
+        all.extend(lines(who, calls, &old_slot_plans(order), "slots", budget));
     }
     all
 }
 
 fn slot_plans(order: Order) -> Vec<Plan> {
-    [256, 512, 1024, 2048, 4096].map(|slots| Plan { slots, used: slots, run: 8, gap: 1, order, room: MOST }).to_vec()
+    let plan = Plan { slots: 0, used: 0, run: 8, gap: 1, order, room: MOST, form: Form::Current };
+    SLOTS.map(|slots| Plan { slots, used: slots, ..plan }).to_vec()
+}
+
+/// The same in the old form, as far as it can name the records.
+fn old_slot_plans(order: Order) -> Vec<Plan> {
+    let plan = Plan { slots: 0, used: 0, run: OLD_RUN - 1, gap: 1, order, room: OLD_MOST, form: Form::Old };
+    SLOTS.map(|slots| Plan { slots, used: slots, ..plan }).to_vec()
 }
 
 /// With the records, 4,000 to 1,000,000 of them, over which 1,024 scans are spread.
 pub fn with_records(who: &str, calls: &Calls, budget: Duration) -> Vec<Growth> {
     let plans = [4_000, 20_000, 100_000, 500_000, MOST].map(|room| {
-        let empty = Plan { slots: 1024, used: 1024, run: 1, gap: 0, order: Order::Random, room };
+        let empty = Plan { slots: 1024, used: 1024, run: 1, gap: 0, order: Order::Random, room, form: Form::Current };
         Plan { gap: (room - empty.n() - 200) / 1024 - 1, ..empty }
     });
     lines(who, calls, &plans, "records", budget)

@@ -5,6 +5,7 @@
 
 #![allow(missing_docs)] // a program in parts, of no use to others
 
+pub mod before;
 pub mod call;
 pub mod case;
 pub mod clock;

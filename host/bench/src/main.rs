@@ -2,7 +2,8 @@
 //! verdicts alone, in some ten seconds; any other word picks the lines of the table that have it.
 
 use bench::case::Line;
-use bench::{closed, grow, stack, suite, table, targets};
+use bench::{before, closed, grow, stack, suite, table, targets};
+use face::Calls;
 use std::process::ExitCode;
 use std::time::Duration;
 
@@ -31,10 +32,16 @@ fn measure(cases: Vec<bench::case::Case>, effort: &Effort) -> Vec<Line> {
 fn main() -> ExitCode {
     let words: Vec<String> = std::env::args().skip(1).collect();
     let library = sdd::calls();
-    if words.iter().any(|word| word == closed::WORD) {
-        closed::make(&library);
-        return ExitCode::SUCCESS;
+    match words.first().map(String::as_str) {
+        Some(closed::WORD) => closed::make(&library),
+        Some(before::WORD) => return ExitCode::from(u8::from(!before::measure(&words[1..]))),
+        _ => measure_all(&words, &library),
     }
+    ExitCode::SUCCESS
+}
+
+/// The table and the verdicts, or what the words ask for of them.
+fn measure_all(words: &[String], library: &Calls) {
     let quick = words.iter().any(|word| word == "--quick");
     let picked: Vec<&String> = words.iter().filter(|word| !word.starts_with("--")).collect();
     let effort = if quick { QUICK } else { WHOLE };
@@ -45,18 +52,18 @@ fn main() -> ExitCode {
         table::print_lines(&lines);
     }
     if !picked.is_empty() {
-        return ExitCode::SUCCESS;
+        return;
     }
-    let mut growths = grow::with_slots("library", &library, effort.growth);
+    let mut growths = grow::with_slots("library", library, effort.growth);
     if !quick {
-        growths.extend(grow::with_records("library", &library, effort.growth));
+        growths.extend(grow::with_records("library", library, effort.growth));
         growths.extend(grow::with_slots("plain", &plain::calls(), effort.growth));
         growths.push(grow::of_limit(effort.growth));
         table::print_growths(&growths);
     }
     let of_library: Vec<grow::Growth> =
         growths.into_iter().filter(|growth| growth.what.starts_with("library")).collect();
-    let depths = stack::depths(&library);
+    let depths = stack::depths(library);
     if !quick {
         let rows: Vec<Vec<String>> =
             depths.iter().map(|depth| vec![format!("sdd_{}", depth.name), depth.bytes.to_string()]).collect();
@@ -65,5 +72,4 @@ fn main() -> ExitCode {
     let deepest = depths.iter().map(|depth| depth.bytes).max().unwrap_or(0);
     let left_alone = std::env::current_exe().is_ok_and(|path| closed::is_left_alone(&path));
     targets::print(&targets::verdicts(&lines, &of_library, deepest, left_alone));
-    ExitCode::SUCCESS
 }

@@ -1,9 +1,9 @@
 //! The deepest stack of a call: a thread's stack is painted before it starts, and looked at after it has ended.
 
 use crate::call::{Call, Stage};
-use crate::file::{File, Order, Plan};
+use crate::file::{File, Form, Order, Plan};
 use crate::map::Map;
-use crate::suite::MOST;
+use crate::suite::{self, MOST, OLD_RUN};
 use face::Calls;
 use libc::{pthread_attr_init, pthread_attr_t, pthread_create, pthread_join};
 use std::ffi::{c_int, c_void};
@@ -61,7 +61,7 @@ pub struct Depth {
     pub bytes: usize,
 }
 
-/// The deepest stack of each call of the header, over the orders of the index.
+/// The deepest stack of each call of the header, over the orders of the index and both forms.
 pub fn depths(calls: &Calls) -> Vec<Depth> {
     let alone = [
         ("open", Call::Open),
@@ -85,11 +85,15 @@ pub fn depths(calls: &Calls) -> Vec<Depth> {
     depths
 }
 
-/// The most that is measured, over files in every order.
+/// The most that is measured, over files in every order and of both forms; no save runs on an old one.
 fn deepest(call: Call, measure: &dyn Fn(&mut Stage) -> usize) -> usize {
-    let of = |order| {
-        let plan = Plan { slots: 4096, used: 4000, run: 128, gap: 1, order, room: MOST };
+    let of = |form, order| {
+        let plan = match form {
+            Form::Old => Plan { used: 4000, ..suite::old(order, OLD_RUN) },
+            Form::Current => Plan { slots: 4096, used: 4000, run: 128, gap: 1, order, room: MOST, form },
+        };
         measure(&mut Stage::new(File::new(plan), call))
     };
-    Order::ALL.map(of).into_iter().max().unwrap()
+    let forms = if matches!(call, Call::Save(_)) { &[Form::Current][..] } else { &Form::ALL };
+    forms.iter().flat_map(|form| Order::ALL.map(|order| of(*form, order))).max().unwrap()
 }

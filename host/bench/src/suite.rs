@@ -2,14 +2,22 @@
 
 use crate::call::Call;
 use crate::case::Case;
-use crate::file::{Order, Plan};
+use crate::file::{Form, Order, Plan};
 
 /// The most records that a file has.
 pub const MOST: usize = 1_000_000;
+/// What an old entry can name, and the records of a scan with which 4,096 of them fill nearly all of it.
+pub const OLD_MOST: usize = 32_767;
+pub const OLD_RUN: usize = 7;
 
 /// A full index.
 fn full(slots: usize, order: Order, run: usize) -> Plan {
-    Plan { slots, used: slots, run, gap: 0, order, room: MOST }
+    Plan { slots, used: slots, run, gap: 0, order, room: MOST, form: Form::Current }
+}
+
+/// A full index of 4,096 slots in the old form.
+pub fn old(order: Order, run: usize) -> Plan {
+    Plan { room: OLD_MOST, form: Form::Old, ..full(4096, order, run) }
 }
 
 fn case(call: Call, plan: Plan) -> Case {
@@ -23,6 +31,20 @@ fn opens(slots: usize) -> Vec<Case> {
         cases.extend([1, 8, 128].map(|run| case(Call::Open, full(slots, order, run))));
     }
     cases.push(Case { shares: true, ..case(Call::Open, full(slots, Order::Random, 8)) });
+    cases
+}
+
+/// The old form: open as in the current one, and the calls that look.
+fn olds() -> Vec<Case> {
+    let mut cases = vec![case(Call::Open, Plan { used: 0, ..old(Order::Rising, 1) })];
+    for order in Order::ALL {
+        cases.extend([1, OLD_RUN].map(|run| case(Call::Open, old(order, run))));
+    }
+    cases.push(Case { shares: true, ..case(Call::Open, old(Order::Random, OLD_RUN)) });
+    for order in [Order::Rising, Order::Random, Order::Falling] {
+        let plan = Plan { used: 4095, ..old(order, OLD_RUN) };
+        cases.extend([Call::List, Call::Entry, Call::Show, Call::Read].map(|call| case(call, plan)));
+    }
     cases
 }
 
@@ -44,7 +66,7 @@ fn jobs(orders: &[Order], sizes: &[usize]) -> Vec<Case> {
     let mut cases = Vec::new();
     for (room, used, run) in [(1_000, 256, 1), (100_000, 4000, 8), (MOST, 4000, 128)] {
         for order in orders {
-            let plan = Plan { slots: 4096, used, run, gap: 0, order: *order, room };
+            let plan = Plan { used, room, ..full(4096, *order, run) };
             for bytes in sizes {
                 cases.push(case(Call::Save(*bytes), plan));
                 cases.push(case(Call::Clear(*bytes), plan));
@@ -54,12 +76,25 @@ fn jobs(orders: &[Order], sizes: &[usize]) -> Vec<Case> {
     cases
 }
 
+/// The lines that a change of the library is held to: 4,096 slots of the current form.
+pub fn before() -> Vec<Case> {
+    let mut cases: Vec<Case> = Order::ALL.map(|order| case(Call::Open, full(4096, order, 8))).into();
+    for order in [Order::Rising, Order::Random] {
+        let plan = Plan { used: 4095, ..full(4096, order, 8) };
+        let calls =
+            [Call::List, Call::Entry, Call::Read, Call::BeginSave(65_536), Call::BeginKeep(512), Call::BeginClear];
+        cases.extend(calls.map(|call| case(call, plan)));
+        cases.push(case(Call::Save(65_536), Plan { used: 4000, ..plan }));
+    }
+    cases
+}
+
 /// Every line.
 pub fn all() -> Vec<Case> {
-    [opens(1024), opens(4096), looks(), jobs(&[Order::Rising, Order::Random], &[512, 4_096, 65_536])].concat()
+    [opens(1024), opens(4096), looks(), olds(), jobs(&[Order::Rising, Order::Random], &[512, 4_096, 65_536])].concat()
 }
 
 /// Those that the verdicts rest on most.
 pub fn quick() -> Vec<Case> {
-    [opens(4096), looks(), jobs(&[Order::Rising, Order::Random], &[65_536])].concat()
+    [opens(4096), looks(), olds(), jobs(&[Order::Rising, Order::Random], &[65_536])].concat()
 }

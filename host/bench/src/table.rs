@@ -9,6 +9,11 @@ fn ratio(spread: Spread) -> String {
     format!("{:.2} ({:.2} to {:.2})", spread.middle, spread.low, spread.high)
 }
 
+/// The same with one digit more, for what should be 1.
+pub fn fine_ratio(spread: Spread) -> String {
+    format!("{:.3} ({:.3} to {:.3})", spread.middle, spread.low, spread.high)
+}
+
 fn time(spread: Spread) -> String {
     format!("{:.2}", spread.middle)
 }

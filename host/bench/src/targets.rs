@@ -2,7 +2,7 @@
 
 use crate::call::Call;
 use crate::case::{Line, Times};
-use crate::file::Order;
+use crate::file::{Form, Order};
 use crate::grow::Growth;
 use crate::table;
 
@@ -38,10 +38,20 @@ fn worst<'a>(
     })
 }
 
-/// An open of a full index with 4,096 slots that is not refused.
+/// The worst of these lines beside plain Rust.
+fn over_plain<'a>(target: &'static str, lines: impl Iterator<Item = &'a Line>) -> Verdict {
+    worst(target, 1.1, lines, |line| line.beside_plain().middle)
+}
+
+/// Whether a line is of the old form.
+fn is_old(line: &Line) -> bool {
+    line.case.plan.form == Form::Old
+}
+
+/// An open of a full index of the current form with 4,096 slots that is not refused.
 fn is_full_open(line: &Line) -> bool {
     let case = &line.case;
-    case.call == Call::Open && case.plan.slots == 4096 && case.plan.used == 4096 && !case.shares
+    !is_old(line) && case.call == Call::Open && case.plan.slots == 4096 && case.plan.used == 4096 && !case.shares
 }
 
 /// A whole save beside what it may take: two opens of the same file and 1.2 times its copies.
@@ -69,7 +79,8 @@ pub fn verdicts(lines: &[Line], growths: &[Growth], stack: usize, left_alone: bo
         worst("open of a full index, any other order, the same", 6.0, opens().filter(|line| !rises(line)), |line| {
             line.beside_limit().middle
         }),
-        worst("any line over plain Rust", 1.1, lines.iter(), |line| line.beside_plain().middle),
+        over_plain("any line over plain Rust", lines.iter().filter(|line| !is_old(line))),
+        over_plain("any line of the old form over plain Rust", lines.iter().filter(|line| is_old(line))),
         Verdict { target: "growth with the slots, exponent", value: exponent, limit: 1.1, place: what },
         worst("a whole save over two opens and 1.2 times its copies", 1.0, saves, |line| {
             line.spread(save_beside).middle

@@ -80,7 +80,9 @@ impl Answer {
         let why = self.why();
         put4(&mut all, &[why.number, why.value]);
         match self {
-            Answer::Opened(a) => put8(&mut all, &[a.n, a.d, a.l, a.m, a.u, a.counter, a.kind, a.capacity, a.room]),
+            Answer::Opened(a) => {
+                put8(&mut all, &[a.n, a.d, a.l, a.m, a.u, a.counter, a.kind, a.capacity, a.room, a.version])
+            }
             Answer::Listed(a) => put8(&mut all, &[a.scans]),
             Answer::Entry(a) => put_entry(&mut all, a),
             Answer::Span(a) => put8(&mut all, &[a.from, a.to]),
@@ -116,7 +118,7 @@ fn put_entry(all: &mut Vec<u8>, a: &Entry) {
     put4(all, &[a.scan, a.field4]);
     put8(all, &[a.field8]);
     put4(all, &[a.lst, a.date]);
-    for half in [a.mode, a.number, a.position, a.kind as i16] {
+    for half in [a.mode, a.number, a.position, a.magic, a.kind as i16] {
         all.extend(half.to_le_bytes());
     }
     put4(all, &[if a.single_value.is_nan() { f32::NAN.to_bits() } else { a.single_value.to_bits() }]);
@@ -172,6 +174,10 @@ fn opened(file: &[u8]) -> Opened {
             kind: z.kind,
             capacity: z.capacity(),
             room: model::room(file.len() as u64, &z),
+            version: match z.form {
+                model::Form::Old => 0,
+                model::Form::Current => 1,
+            },
         },
     }
 }
@@ -202,6 +208,7 @@ fn entry(file: &[u8], slot: u64) -> Entry {
             mode: e.mode,
             number: e.number,
             position: e.position,
+            magic: e.magic,
             kind: match e.kind {
                 model::Kind::Other => 0,
                 model::Kind::Continuum => 1,

@@ -5,8 +5,8 @@
 //! guard pages, and the whole answer and all memory are compared. The cases
 //! come in themes; [`run`] mixes them from a seed.
 //!
-//! From the ground up: `rng` and `call`, `tally`, `world` with its subjects (`linked` on
-//! `guarded`, `recorder`), `cases`, `themes`, `run`.
+//! From the ground up: `rng` and `call`, `cases` and `tally`, `world` with its subjects (`linked` on
+//! `guarded`, `recorder`), `themes`, `run`.
 
 mod call;
 mod cases;

@@ -1,7 +1,17 @@
-//! What was reached: calls, refusals and reasons.
+//! What was reached: calls, refusals and reasons, and the refusals of old files once more by themselves.
 
 use crate::call::{Answer, Call, NAMES};
 use std::fmt;
+
+/// The numbers of refusals, and 0.
+const NUMBERS: usize = 19;
+
+/// What an old file can be answered with, by what is done with it: 0 is that the call is accepted.
+const OLD: [(&str, &[usize]); 3] = [
+    ("a look at an old file", &[0, 1, 3, 4, 5, 6, 7, 8, 9, 10, 11, 17, 18]),
+    ("a change of an old file", &[1, 2, 3]),
+    ("a step on an old file", &[14]),
+];
 
 /// The counts of a run.
 #[derive(Clone, Default, PartialEq, Eq)]
@@ -9,19 +19,34 @@ pub struct Tally {
     /// By call, in the header's order.
     pub calls: [u64; 12],
     /// By refusal; the element at 0 counts accepted calls.
-    pub refusals: [u64; 18],
+    pub refusals: [u64; NUMBERS],
     /// By the reason in refusal 11; the element at 0 is not used.
     pub reasons: [u64; 7],
     /// Steps that answered Saved, and Cleared.
     pub confirmed: [u64; 2],
+    /// By refusal, of the calls on files made in the old form: looks, changes and steps.
+    pub old: [[u64; NUMBERS]; 3],
+}
+
+/// Which of the rows of `OLD` a call counts for; none where the file's form does not matter to it.
+fn old_row(call: &Call) -> Option<usize> {
+    match call {
+        Call::Open | Call::List { .. } | Call::Entry { .. } | Call::Show { .. } | Call::Read { .. } => Some(0),
+        Call::Save { .. } | Call::Keep | Call::Clear { .. } => Some(1),
+        Call::Step { .. } => Some(2),
+        Call::Class { .. } | Call::Data | Call::Blank { .. } => None,
+    }
 }
 
 impl Tally {
-    /// Counts one call.
-    pub(crate) fn count(&mut self, call: &Call, answer: &Answer) {
+    /// Counts one call, on an old file or not.
+    pub(crate) fn count(&mut self, call: &Call, answer: &Answer, old: bool) {
         let why = answer.why();
         self.calls[call.number()] += 1;
         self.refusals[why.number as usize] += 1;
+        if let Some(row) = old_row(call).filter(|_| old) {
+            self.old[row][why.number as usize] += 1;
+        }
         if why.number == 11 {
             self.reasons[why.value as usize] += 1;
         }
@@ -50,15 +75,17 @@ impl Tally {
         assert_eq!(numbers.len(), self.numbers().count());
         let counts =
             self.calls.iter_mut().chain(&mut self.refusals).chain(&mut self.reasons).chain(&mut self.confirmed);
+        let counts = counts.chain(self.old.iter_mut().flatten());
         counts.zip(numbers).for_each(|(count, number)| *count += number);
         true
     }
 
     fn numbers(&self) -> impl Iterator<Item = u64> {
-        self.calls.iter().chain(&self.refusals).chain(&self.reasons).chain(&self.confirmed).copied()
+        let counts = self.calls.iter().chain(&self.refusals).chain(&self.reasons).chain(&self.confirmed);
+        counts.chain(self.old.iter().flatten()).copied()
     }
 
-    /// Refusals, reasons and confirmations that no case reached.
+    /// Refusals, reasons and confirmations that no case reached, and of an old file what it can be answered with.
     pub fn unreached(&self) -> Vec<String> {
         let mut missing = Vec::new();
         let mut look = |name: &str, counts: &[u64], from: usize| {
@@ -72,6 +99,9 @@ impl Tally {
         look("reason", &self.reasons, 1);
         look("confirmed", &self.confirmed, 0);
         look("call", &self.calls, 0);
+        for ((name, numbers), counts) in OLD.iter().zip(&self.old) {
+            missing.extend(numbers.iter().filter(|n| counts[**n] == 0).map(|n| format!("{name}, {n}")));
+        }
         missing
     }
 }
@@ -94,6 +124,11 @@ impl fmt::Display for Tally {
                 write!(f, "  (by rule: {:?})", &self.reasons[1..])?;
             }
             writeln!(f)?;
+        }
+        for ((name, _), counts) in OLD.iter().zip(&self.old) {
+            let reached = counts.iter().enumerate().filter(|(_, count)| **count > 0);
+            let reached: Vec<String> = reached.map(|(number, count)| format!("{number}: {count}")).collect();
+            writeln!(f, "{name} ({})", reached.join(", "))?;
         }
         Ok(())
     }

@@ -9,6 +9,8 @@ mod files;
 mod forged;
 mod giant;
 mod histories;
+mod older;
+mod past;
 mod scans;
 mod shared;
 mod wide;
@@ -26,19 +28,23 @@ pub struct Theme {
 }
 
 /// The themes whose turn comes by chance.
-pub const THEMES: [Theme; 8] = [
-    Theme { name: "files", share: 26, round: files::round },
+pub const THEMES: [Theme; 9] = [
+    Theme { name: "files", share: 24, round: files::round },
     Theme { name: "edges", share: 12, round: edges::round },
-    Theme { name: "scans", share: 20, round: scans::round },
-    Theme { name: "blanks", share: 6, round: blanks::round },
-    Theme { name: "histories", share: 16, round: histories::round },
+    Theme { name: "scans", share: 17, round: scans::round },
+    Theme { name: "blanks", share: 5, round: blanks::round },
+    Theme { name: "histories", share: 14, round: histories::round },
     Theme { name: "cuts", share: 6, round: cuts::round },
     Theme { name: "forged", share: 7, round: forged::round },
     Theme { name: "confirming", share: 7, round: confirming::round },
+    Theme { name: "older", share: 8, round: older::round },
 ];
 
 /// Up to 4,096 slots; dear, so its turn comes by count.
 pub const WIDE: Theme = Theme { name: "wide", share: 0, round: wide::round };
+
+/// Old files with more than 32,767 records; dear too.
+pub const PAST: Theme = Theme { name: "past", share: 0, round: past::round };
 
 /// More than 1,000,000 records; very dear.
 pub const GIANT: Theme = Theme { name: "giant", share: 0, round: giant::round };

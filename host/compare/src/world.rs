@@ -1,6 +1,7 @@
 //! A file, a scan and an entry's bytes, on which model and subject are asked the same.
 
 use crate::call::{Answer, Call, Expected};
+use crate::cases::shape::{Form, get32};
 use crate::rng::Rng;
 use crate::tally::Tally;
 use face::{Begun, Job, Stepped};
@@ -40,6 +41,8 @@ pub struct World<'a> {
     pub rng: Rng,
     /// The file as it should be.
     pub file: Vec<u8>,
+    /// The form that the file was made in, whatever became of it.
+    form: Form,
     /// The scan that is lent.
     pub scan: Vec<u8>,
     about: About,
@@ -54,6 +57,7 @@ impl<'a> World<'a> {
             subject,
             rng: Rng::new(seed),
             file: Vec::new(),
+            form: Form::Current,
             scan: Vec::new(),
             about: [0; 54],
             tally: Tally::default(),
@@ -64,17 +68,29 @@ impl<'a> World<'a> {
         world
     }
 
-    /// Takes a new file.
+    /// Takes a new file of the current form.
     pub fn set_file(&mut self, file: Vec<u8>) {
+        self.set_file_of(Form::Current, file);
+    }
+
+    /// Takes a new file, made in this form.
+    pub fn set_file_of(&mut self, form: Form, file: Vec<u8>) {
         self.subject.new_file(file.len(), &mut self.rng);
         self.subject.patch_file(0, &file);
         self.file = file;
+        self.form = form;
     }
 
-    /// Takes a new file of zeros, which may be far larger than memory.
-    pub fn set_zeros(&mut self, len: usize) {
+    /// Takes a new file of zeros to make one of this form in, which may be far larger than memory.
+    pub fn set_zeros(&mut self, form: Form, len: usize) {
         self.subject.new_file(len, &mut self.rng);
         self.file = vec![0; len];
+        self.form = form;
+    }
+
+    /// Whether the file was made in the old form and is not by damage one of the current form.
+    fn is_old(&self) -> bool {
+        self.form == Form::Old && (self.file.len() < 512 || get32(&self.file, 28) != 1)
     }
 
     /// Puts bytes into the file.
@@ -101,7 +117,7 @@ impl<'a> World<'a> {
         if let Some(write) = &expected.write {
             write.apply(&mut self.file);
         }
-        self.tally.count(&call, &expected.answer);
+        self.tally.count(&call, &expected.answer, self.is_old());
         self.subject
             .call(&call, &expected, &self.file, &self.scan, &self.about)
             .map_err(|what| Disagreement { what: format!("{call:?}\n  {what}") })?;

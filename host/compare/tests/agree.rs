@@ -23,6 +23,17 @@ fn agree(subject: &str, cases: u64) -> Tally {
 }
 
 #[test]
+fn what_no_case_reached_is_named() {
+    let missing = Tally::default().unreached();
+    // refusals with 0, rules, Saved and Cleared, calls; then an old file's looks, changes and steps
+    assert_eq!(missing.len(), 19 + 6 + 2 + 12 + 13 + 3 + 1);
+    let named = ["refusal 18", "a look at an old file, 18", "a change of an old file, 2", "a step on an old file, 14"];
+    for name in named {
+        assert!(missing.iter().any(|missing| missing == name), "{name} is not among {missing:?}");
+    }
+}
+
+#[test]
 fn the_library_agrees_with_the_model() {
     let cases = std::env::var("RINZO_CASES").map_or(CASES, |text| text.parse().expect("RINZO_CASES is a number"));
     let tally = agree("library", cases);

@@ -14,7 +14,7 @@ fn every_wrong_line_is_noticed() {
     let seed = seed_from_environment().wrapping_mul(31);
     println!("wrong lines: seed {seed}");
     let lines = wrong_lines();
-    assert!(lines.len() >= 30);
+    assert!(lines.len() >= 126);
     let (waiting, missed) = (Mutex::new(lines.iter()), Mutex::new(Vec::new()));
     let next = || waiting.lock().unwrap().next();
     std::thread::scope(|scope| {
@@ -42,6 +42,6 @@ fn noticed(wrong: &Wrong, seed: u64) -> bool {
     } else {
         ended.said.trim().to_string()
     };
-    println!("  {:>2} {how}: {}", wrong.number, wrong.what);
+    println!("  {:>3} {how}: {}", wrong.number, wrong.what);
     !ended.agreed
 }

@@ -4,7 +4,7 @@
 #[repr(C)]
 #[derive(Clone, Copy, Debug, PartialEq, Eq)]
 pub struct Refusal {
-    /// 1 to 17, or 0.
+    /// 1 to 18, or 0.
     pub number: u32,
     /// The slot (6, 7, 8) or the reason (11), else 0.
     pub value: u32,
@@ -25,6 +25,8 @@ pub struct Opened {
     pub kind: u64,
     pub capacity: u64,
     pub room: u64,
+    /// 0 the old form, 1 the current one.
+    pub version: u64,
 }
 
 /// How many scans were listed.
@@ -65,6 +67,8 @@ pub struct Entry {
     pub mode: i16,
     pub number: i16,
     pub position: i16,
+    /// What the old form says of the scan's own form; 0 in the current one, which says nothing.
+    pub magic: i16,
     pub kind: u16,
     pub single_value: f32,
     pub double_value: f64,
@@ -114,8 +118,19 @@ impl Refusal {
 
 impl Opened {
     /// The answer of a refused call but for `why`.
-    pub const ZEROS: Opened =
-        Opened { why: Refusal::NONE, n: 0, d: 0, l: 0, m: 0, u: 0, counter: 0, kind: 0, capacity: 0, room: 0 };
+    pub const ZEROS: Opened = Opened {
+        why: Refusal::NONE,
+        n: 0,
+        d: 0,
+        l: 0,
+        m: 0,
+        u: 0,
+        counter: 0,
+        kind: 0,
+        capacity: 0,
+        room: 0,
+        version: 0,
+    };
 }
 
 impl Entry {
@@ -135,6 +150,7 @@ impl Entry {
         mode: 0,
         number: 0,
         position: 0,
+        magic: 0,
         kind: 0,
         single_value: 0.0,
         double_value: 0.0,

@@ -6,7 +6,7 @@ use std::mem::{offset_of, size_of};
 
 const _: () = {
     assert!(size_of::<Refusal>() == 8);
-    assert!(size_of::<Opened>() == 80);
+    assert!(size_of::<Opened>() == 88);
     assert!(size_of::<Listed>() == 16);
     assert!(size_of::<Span>() == 24);
     assert!(size_of::<Entry>() == 88);
@@ -14,11 +14,16 @@ const _: () = {
     assert!(size_of::<Begun>() == 144);
     assert!(size_of::<Stepped>() == 168);
 
+    assert!(offset_of!(Opened, kind) == 56);
+    assert!(offset_of!(Opened, room) == 72);
+    assert!(offset_of!(Opened, version) == 80);
     assert!(offset_of!(Entry, source) == 24);
     assert!(offset_of!(Entry, field8) == 48);
     assert!(offset_of!(Entry, mode) == 64);
-    assert!(offset_of!(Entry, kind) == 70);
-    assert!(offset_of!(Entry, single_value) == 72);
+    assert!(offset_of!(Entry, position) == 68);
+    assert!(offset_of!(Entry, magic) == 70);
+    assert!(offset_of!(Entry, kind) == 72);
+    assert!(offset_of!(Entry, single_value) == 76);
     assert!(offset_of!(Entry, double_value) == 80);
     assert!(offset_of!(Job, boot) == 48);
     assert!(offset_of!(Job, about) == 80);

@@ -12,4 +12,4 @@ mod numbers;
 
 pub use answers::{Begun, Entry, Job, Listed, Opened, Refusal, Span, Stepped};
 pub use calls::Calls;
-pub use numbers::{done, kind, refused};
+pub use numbers::{done, kind, refused, version};

@@ -20,6 +20,7 @@ pub mod refused {
     pub const NOT_CONFIRMED: u32 = 15;
     pub const BAD_SIZES: u32 = 16;
     pub const ANSWER_TOO_LONG: u32 = 17;
+    pub const NOT_VERSION_ONE: u32 = 18;
 }
 
 /// What a step did.
@@ -30,6 +31,14 @@ pub mod done {
     pub const SAVED: u64 = 1;
     /// It confirmed a clear.
     pub const CLEARED: u64 = 2;
+}
+
+/// Which form a file has.
+pub mod version {
+    /// From before 1993; such a file is looked at and not changed.
+    pub const OLD: u64 = 0;
+    /// Today's.
+    pub const CURRENT: u64 = 1;
 }
 
 /// What an entry's mode says.

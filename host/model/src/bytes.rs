@@ -31,6 +31,16 @@ pub fn half(bytes: &[u8], at: usize) -> i16 {
     i16::from_be_bytes(bytes[at..at + 2].try_into().unwrap())
 }
 
+/// The 32-bit word of the same value as the Integer*2 at an offset: "a negative one becomes a number above every limit".
+pub fn widened(bytes: &[u8], at: usize) -> u64 {
+    u64::from(i32::from(half(bytes, at)) as u32)
+}
+
+/// The 16 plain bits at an offset.
+pub fn plain_half(bytes: &[u8], at: usize) -> u64 {
+    u64::from(half(bytes, at) as u16)
+}
+
 /// A number as a 32-bit word.
 pub fn word_bytes(number: u64) -> [u8; 4] {
     u32::try_from(number).unwrap().to_be_bytes()

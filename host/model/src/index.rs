@@ -1,8 +1,8 @@
 //! "The index entry": the runs that the entries name, and the judgement of a file.
 
-use crate::bytes::word;
+use crate::bytes::{widened, word};
 use crate::refusal::{Answer, refuse_with};
-use crate::sizes::{Sizes, bootstrap};
+use crate::sizes::{Form, Sizes, bootstrap};
 
 /// First and last record of an entry.
 #[allow(missing_docs)]
@@ -13,10 +13,13 @@ pub struct Run {
 }
 
 impl Run {
-    /// What a slot's entry says.
+    /// What a slot's entry says: two 32-bit numbers, or in the old form two of 16 bits.
     pub(crate) fn of(file: &[u8], sizes: &Sizes, slot: u64) -> Run {
         let entry = sizes.entry(file, slot);
-        Run { first: word(entry, 0), last: word(entry, 4) }
+        match sizes.form {
+            Form::Old => Run { first: widened(entry, 0), last: widened(entry, 2) },
+            Form::Current => Run { first: word(entry, 0), last: word(entry, 4) },
+        }
     }
 
     /// "An entry is empty when first and last are both 0".
@@ -40,7 +43,7 @@ fn runs(file: &[u8], sizes: &Sizes) -> Vec<Run> {
     (1..=sizes.capacity()).map(|slot| Run::of(file, sizes, slot)).collect()
 }
 
-/// Judges a file: refusals 1 to 8.
+/// Judges a file of either form: refusals 1 and 3 to 8.
 pub fn open(file: &[u8]) -> Answer<Sizes> {
     let sizes = bootstrap(file)?;
     let runs = runs(file, &sizes);

@@ -5,7 +5,7 @@ use crate::index::{Run, listed, open};
 use crate::look::occupied;
 use crate::refusal::{Answer, refuse};
 use crate::scan::{Purpose, rules};
-use crate::sizes::{Sizes, bootstrap, room};
+use crate::sizes::{Form, Sizes, bootstrap, may_change, room};
 
 /// An entry's bytes 8 to 61.
 pub type About = [u8; 54];
@@ -55,7 +55,7 @@ pub struct Stepped {
 
 /// "Blank writes N records, D = U = counter = type = 0, zeros after word 8".
 pub fn blank(file_len: u64, n: u64, l: u64, m: u64) -> Answer<Write> {
-    let sizes = Sizes { n, d: 0, l, m, u: 0, counter: 0, kind: 0 };
+    let sizes = Sizes { n, d: 0, l, m, u: 0, counter: 0, kind: 0, form: Form::Current };
     if !sizes.shape_in_range() || n * l > file_len {
         return refuse(16);
     }
@@ -64,7 +64,7 @@ pub fn blank(file_len: u64, n: u64, l: u64, m: u64) -> Answer<Write> {
     Ok(Write { at: 0, bytes })
 }
 
-/// The eight words of a bootstrap.
+/// The eight words of a bootstrap; none is ever written in the old form.
 fn boot_bytes(sizes: &Sizes) -> [u8; 32] {
     let words = [sizes.n, sizes.d, sizes.l, sizes.m, sizes.u, sizes.counter, sizes.kind, 1];
     words.map(word_bytes).concat().try_into().unwrap()
@@ -87,6 +87,7 @@ fn lowest_place(file: &[u8], sizes: &Sizes, k: u64) -> Option<u64> {
 
 /// Begins a save to a slot.
 pub fn save(file: &[u8], slot: u64, scan: &[u8], about: &About) -> Answer<Job> {
+    may_change(file)?;
     let sizes = open(file)?;
     if !sizes.has_slot(slot) {
         return refuse(9);
@@ -96,6 +97,7 @@ pub fn save(file: &[u8], slot: u64, scan: &[u8], about: &About) -> Answer<Job> {
 
 /// Begins a save to the lowest empty slot.
 pub fn keep(file: &[u8], scan: &[u8], about: &About) -> Answer<Job> {
+    may_change(file)?;
     let sizes = open(file)?;
     match (1..=sizes.capacity()).find(|slot| Run::of(file, &sizes, *slot).is_empty()) {
         None => refuse(12),
@@ -115,6 +117,7 @@ fn begin_save(file: &[u8], sizes: &Sizes, slot: u64, scan: &[u8], about: &About)
 
 /// Begins a clear.
 pub fn clear(file: &[u8], slot: u64) -> Answer<Job> {
+    may_change(file)?;
     occupied(file, slot)?;
     Ok(Job { slot, ..job_on(file) })
 }
@@ -125,12 +128,16 @@ fn job_on(file: &[u8]) -> Job {
     Job { saves: 0, slot: 0, scan_len: 0, file_len: file.len() as u64, first: 0, written: 0, boot, about: [0; 54] }
 }
 
-/// The sizes where job, file and scan agree; none of the sentence "A step checks 14 first" applies then.
+/// The sizes where job, file and scan agree; none of the sentence "A step checks 14 first" applies then, and the file
+/// is not old: "a step on an old file gets 14".
 fn agree(file: &[u8], scan: &[u8], job: &Job) -> Option<Sizes> {
     if scan.len() as u64 != job.scan_len || file.len() as u64 != job.file_len {
         return None;
     }
     let sizes = bootstrap(file).ok()?;
+    if sizes.form == Form::Old {
+        return None;
+    }
     if file[..32] != job.boot {
         return None;
     }

@@ -1,4 +1,4 @@
-//! An independent model of the paper (01), in plain Rust.
+//! An independent model of the paper (01, with the requests of 02), in plain Rust.
 //!
 //! It was written from the paper alone, to be held beside it sentence by
 //! sentence, and it shares nothing with the library or with the face. It is
@@ -21,4 +21,4 @@ pub use job::{About, Done, Job, Stepped, blank, clear, keep, save, step};
 pub use look::{Entry, Kind, class, data, entry, list, read, show};
 pub use refusal::{Answer, Refusal};
 pub use scan::{Purpose, Shape, rules, whole};
-pub use sizes::{Sizes, bootstrap, room};
+pub use sizes::{Form, Sizes, bootstrap, room};

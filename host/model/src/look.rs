@@ -4,7 +4,7 @@ use crate::bytes::{double_word, half, word};
 use crate::index::{Run, listed, open};
 use crate::refusal::{Answer, refuse};
 use crate::scan::{Purpose, rules};
-use crate::sizes::Sizes;
+use crate::sizes::{Form, Sizes};
 
 /// The elements that a listing writes: slot, first and last for each scan.
 /// 17 where `out_len` elements do not hold them.
@@ -45,10 +45,11 @@ pub struct Entry {
     pub mode: i16,
     pub number: i16,
     pub position: i16,
+    pub magic: i16,
     pub kind: Kind,
 }
 
-/// The run of a slot that has a scan: refusals 1 to 10.
+/// The run of a slot that has a scan: refusals 1 and 3 to 10.
 pub(crate) fn occupied(file: &[u8], slot: u64) -> Answer<(Sizes, Run)> {
     let sizes = open(file)?;
     if !sizes.has_slot(slot) {
@@ -61,15 +62,31 @@ pub(crate) fn occupied(file: &[u8], slot: u64) -> Answer<(Sizes, Run)> {
     Ok((sizes, run))
 }
 
+/// An entry's position code.
+fn position(entry: &[u8], sizes: &Sizes) -> i16 {
+    match sizes.form {
+        Form::Old => half(entry, 6),
+        Form::Current => half(entry, 60),
+    }
+}
+
+/// An entry's magic number; "This exists only in the old SDD format index", so it is 0 in the current one.
+fn magic(entry: &[u8], sizes: &Sizes) -> i16 {
+    match sizes.form {
+        Form::Old => half(entry, 4),
+        Form::Current => 0,
+    }
+}
+
 /// A slot's index entry.
 pub fn entry(file: &[u8], slot: u64) -> Answer<Entry> {
-    let (sizes, _) = occupied(file, slot)?;
+    let (sizes, run) = occupied(file, slot)?;
     let bytes = sizes.entry(file, slot);
     let real4 = |at| word(bytes, at) as u32;
     let mode = half(bytes, 56);
     Ok(Entry {
-        first: real4(0),
-        last: real4(4),
+        first: run.first as u32,
+        last: run.last as u32,
         horizontal: real4(8),
         vertical: real4(12),
         source: bytes[16..32].try_into().unwrap(),
@@ -80,7 +97,8 @@ pub fn entry(file: &[u8], slot: u64) -> Answer<Entry> {
         date: real4(52),
         mode,
         number: half(bytes, 58),
-        position: half(bytes, 60),
+        position: position(bytes, &sizes),
+        magic: magic(bytes, &sizes),
         kind: match mode {
             256..=304 => Kind::Continuum,
             512..=560 => Kind::SpectralLine,
@@ -95,8 +113,18 @@ pub fn show(file: &[u8], slot: u64) -> Answer<(u64, u64)> {
     Ok(((run.first - 1) * sizes.l, run.last * sizes.l))
 }
 
+/// "Magic 2 is a version 1 scan; any other is listed and shown, but not read".
+fn version_one(file: &[u8], sizes: &Sizes, slot: u64) -> bool {
+    sizes.form == Form::Current || magic(sizes.entry(file, slot), sizes) == 2
+}
+
 /// "A read answers the first HEADLEN + DATALEN bytes of the entry's records."
+/// "18, scan not version 1, stands between 10 and 11".
 pub fn read(file: &[u8], slot: u64) -> Answer<(u64, u64)> {
+    let (sizes, _) = occupied(file, slot)?;
+    if !version_one(file, &sizes, slot) {
+        return refuse(18);
+    }
     let (from, to) = show(file, slot)?;
     let shape = rules(&file[from as usize..to as usize], Purpose::Reading)?;
     Ok((from, from + shape.head + shape.data))

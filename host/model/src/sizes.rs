@@ -1,6 +1,6 @@
 //! "Sizes": the bootstrap, and what follows from the sizes alone.
 
-use crate::bytes::word;
+use crate::bytes::{plain_half, widened, word};
 use crate::refusal::{Answer, refuse};
 
 /// No file has more records than this.
@@ -8,7 +8,16 @@ pub const MOST_RECORDS: u64 = 1_000_000;
 /// No file has more slots than this.
 pub const MOST_SLOTS: u64 = 4_096;
 
-/// Words 1 to 7 of a bootstrap.
+/// Which bootstrap and index a file has.
+#[derive(Clone, Copy, Debug, PartialEq, Eq)]
+pub enum Form {
+    /// From before 1993: 16-bit words.
+    Old,
+    /// Version 1: 32-bit words.
+    Current,
+}
+
+/// What a bootstrap says, whatever its form.
 #[allow(missing_docs)] // the names are the paper's
 #[derive(Clone, Copy, Debug, PartialEq, Eq)]
 pub struct Sizes {
@@ -19,13 +28,30 @@ pub struct Sizes {
     pub u: u64,
     pub counter: u64,
     pub kind: u64,
+    pub form: Form,
 }
 
 impl Sizes {
-    /// The first seven words, whatever they are.
-    pub(crate) fn of(file: &[u8]) -> Sizes {
+    /// The words of a bootstrap of this form, whatever they are.
+    fn of(file: &[u8], form: Form) -> Sizes {
+        match form {
+            Form::Old => Sizes::of_old(file),
+            Form::Current => Sizes::of_current(file),
+        }
+    }
+
+    /// The first seven 32-bit words.
+    fn of_current(file: &[u8]) -> Sizes {
         let at = |number: usize| word(file, 4 * (number - 1));
-        Sizes { n: at(1), d: at(2), l: at(3), m: at(4), u: at(5), counter: at(6), kind: at(7) }
+        let form = Form::Current;
+        Sizes { n: at(1), d: at(2), l: at(3), m: at(4), u: at(5), counter: at(6), kind: at(7), form }
+    }
+
+    /// "six 16-bit words (N, D, L, M, U, counter)"; "The counter is 16 plain bits and the type counts as 0".
+    fn of_old(file: &[u8]) -> Sizes {
+        let at = |number: usize| widened(file, 2 * (number - 1));
+        let counter = plain_half(file, 10);
+        Sizes { n: at(1), d: at(2), l: at(3), m: at(4), u: at(5), counter, kind: 0, form: Form::Old }
     }
 
     /// "Capacity is (N-1) x L / M".
@@ -84,17 +110,29 @@ pub fn room(file_len: u64, sizes: &Sizes) -> u64 {
     (file_len / sizes.l).min(MOST_RECORDS)
 }
 
-/// Refusals 1 to 5.
-pub fn bootstrap(file: &[u8]) -> Answer<Sizes> {
+/// "word 8 (bytes 28 to 31) 0: old; 1: current; else 3". Refusals 1 and 3.
+fn form(file: &[u8]) -> Answer<Form> {
     if file.len() < 512 {
         return refuse(1);
     }
     match word(file, 28) {
-        0 => return refuse(2),
-        1 => (),
-        _ => return refuse(3),
+        0 => Ok(Form::Old),
+        1 => Ok(Form::Current),
+        _ => refuse(3),
     }
-    let sizes = Sizes::of(file);
+}
+
+/// "2 now means a save, keep or clear on an old file and keeps its place", which is before 4. Refusals 1 to 3.
+pub(crate) fn may_change(file: &[u8]) -> Answer<()> {
+    match form(file)? {
+        Form::Old => refuse(2),
+        Form::Current => Ok(()),
+    }
+}
+
+/// Refusals 1, 3, 4 and 5.
+pub fn bootstrap(file: &[u8]) -> Answer<Sizes> {
+    let sizes = Sizes::of(file, form(file)?);
     if !sizes.in_range() {
         return refuse(4);
     }

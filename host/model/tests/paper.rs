@@ -1,6 +1,6 @@
 //! The paper's "Numbers to hold us to", asked of the model.
 
-use model::{Job, Purpose, Sizes, blank, bootstrap, listed, open, rules, save, step, whole};
+use model::{Form, Job, Purpose, Sizes, blank, bootstrap, listed, open, rules, save, step, whole};
 use sample::scan;
 
 /// A blank file of this length.
@@ -42,7 +42,7 @@ fn lengths_and_versions() {
     assert_eq!(number_of(open(&[0; 511])), 1);
     let mut file = blanked(4_096, 3, 512, 64);
     file[31] = 0;
-    assert_eq!(number_of(open(&file)), 2);
+    assert_eq!(number_of(save(&file, 1, &scan(512, 3), &[0; 54])), 2);
     file[31] = 2;
     assert_eq!(number_of(open(&file)), 3);
 }
@@ -62,7 +62,7 @@ fn capacities() {
 
 #[test]
 fn homes() {
-    let sizes = Sizes { n: 3, d: 0, l: 512, m: 64, u: 0, counter: 0, kind: 0 };
+    let sizes = Sizes { n: 3, d: 0, l: 512, m: 64, u: 0, counter: 0, kind: 0, form: Form::Current };
     assert_eq!((sizes.home_record(8), sizes.home_place(8)), (2, 448));
     assert_eq!((sizes.home_record(9), sizes.home_place(9)), (3, 0));
 }

@@ -1,8 +1,8 @@
 //! The calls with the C face: pointers to slices, answers to structs of numbers.
 
 use crate::calls::{look, store};
+use crate::ground::line::or;
 use crate::rules::boot::Answer;
-use crate::rules::index;
 use face::{Begun, Calls, Entry, Job, Listed, Opened, Refusal, Span, Stepped};
 use std::slice::{from_raw_parts, from_raw_parts_mut};
 
@@ -51,24 +51,9 @@ fn begun(answer: Answer<Job>) -> Begun {
 }
 
 unsafe extern "C" fn open<const X: u32>(file: *const u8, file_len: usize) -> Opened {
-    match index::judge::<X>(unsafe { lent(file, file_len) }) {
-        Err(why) => Opened { why, ..Opened::ZEROS },
-        Ok(judged) => {
-            let z = judged.sizes;
-            let (capacity, room) = (z.capacity(), z.room::<X>(file_len as u64));
-            Opened {
-                why: Refusal::NONE,
-                n: z.n,
-                d: z.d,
-                l: z.l,
-                m: z.m,
-                u: z.u,
-                counter: z.counter,
-                kind: z.kind,
-                capacity,
-                room,
-            }
-        }
+    match look::open::<X>(unsafe { lent(file, file_len) }) {
+        Ok(opened) => opened,
+        Err(why) => Opened { why, version: or::<X, _>(123, 0, 1), ..Opened::ZEROS },
     }
 }
 

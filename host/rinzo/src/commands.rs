@@ -9,6 +9,7 @@ mod classes;
 mod demo;
 mod each;
 mod entry;
+mod form;
 mod install;
 mod list;
 mod pages;

@@ -101,15 +101,21 @@ fn a_room_that_the_device_does_not_have_leaves_no_file() {
 fn a_file_of_zeros_is_called_empty() {
     let folder = folder("zeros");
     fs::write(folder.join("f.sdd"), vec![0; 300_000]).unwrap();
-    for words in [&["list", "f.sdd"][..], &["check", "f.sdd"], &["entry", "f.sdd", "1"]] {
+    fs::write(folder.join("scan"), sample::scan(512, 1)).unwrap();
+    // the paper has them as an old file without records, which is out of range to look at and old to change
+    let looks = [&["list", "f.sdd"][..], &["check", "f.sdd"], &["entry", "f.sdd", "1"]].map(|words| (words, 4));
+    let changes = [&["keep", "f.sdd", "scan"][..], &["clear", "f.sdd", "1"]].map(|words| (words, 2));
+    for (words, number) in looks.into_iter().chain(changes) {
         let (status, said) = refused(&folder, words);
-        assert_eq!(status, 2);
-        assert!(said.contains("refused 2: f.sdd is empty, all its bytes are zeros"), "{said}");
+        assert_eq!(status, number, "{words:?}");
+        assert!(said.contains(&format!("refused {number}: f.sdd is empty, all its bytes are zeros")), "{said}");
     }
-    // one byte somewhere, and it is what the paper says: an old file
+    // one byte somewhere, and it is what the paper says
     let mut bytes = vec![0; 300_000];
     bytes[299_999] = 1;
     fs::write(folder.join("f.sdd"), bytes).unwrap();
     let (status, said) = refused(&folder, &["list", "f.sdd"]);
+    assert!(status == 4 && said.contains("f.sdd: a number in the file's first record is outside"), "{said}");
+    let (status, said) = refused(&folder, &["clear", "f.sdd", "1"]);
     assert!(status == 2 && said.contains("f.sdd: the file has the old form"), "{said}");
 }

@@ -69,6 +69,17 @@ fn the_example_in_c_saves_and_tells_the_truth() {
     assert_eq!(refused.status.code(), Some(9));
     assert!(said(&refused).starts_with("not saved: refused 9 (0): the file has no such slot"), "{}", said(&refused));
 
+    // a file of the old form is refused as such, whatever its numbers are
+    for n in [3, 0] {
+        let mut old = sample::old_file(3, 8, &[]);
+        old[1] = n;
+        fs::write(folder.join("old.sdd"), &old).unwrap();
+        let refused = save(&folder, &program, &format!("old.sdd 1 {name}"), None);
+        assert_eq!(refused.status.code(), Some(2), "{}", said(&refused));
+        assert!(said(&refused).contains("refused 2 (0): the file has the old form"), "{}", said(&refused));
+        assert!(fs::read(folder.join("old.sdd")).unwrap() == old);
+    }
+
     // record 7 would end past the limit: the job is dropped, and nothing is called saved
     let before = fs::read(folder.join("f.sdd")).unwrap();
     let failed = save(&folder, &program, &format!("f.sdd 9 {name}"), Some(6));

@@ -116,14 +116,7 @@ fn refusals_are_the_status_and_a_sentence() {
         bytes[at] = byte;
         bytes
     };
-    let files = [
-        (1, good[..511].to_vec()),
-        (2, with(31, 0)),
-        (3, with(31, 2)),
-        (4, with(27, 2)),
-        (5, with(7, 6)),
-        (7, with(512 + 3, 4)),
-    ];
+    let files = [(1, good[..511].to_vec()), (3, with(31, 2)), (4, with(27, 2)), (5, with(7, 6)), (7, with(512 + 3, 4))];
     for (number, bytes) in files {
         fs::write(folder.join("bad.sdd"), bytes).unwrap();
         for words in [["list", "bad.sdd"], ["check", "bad.sdd"]] {
@@ -279,7 +272,7 @@ fn programs_get_json() {
     assert_eq!(lines[4], "{\"event\":\"saved\",\"slot\":3,\"first\":4,\"last\":4}");
     assert_eq!(
         wrote(&folder, &["list", "f.sdd", "--json"]),
-        "{\"file\":\"f.sdd\",\"slots\":16,\"used\":3,\"scans\":[{\"slot\":3,\"first\":4,\"last\":4}]}\n"
+        "{\"file\":\"f.sdd\",\"form\":\"current\",\"slots\":16,\"used\":3,\"scans\":[{\"slot\":3,\"first\":4,\"last\":4}]}\n"
     );
     let output = run(&folder, &["clear", "f.sdd", "2", "--json"]);
     assert_eq!(output.status.code(), Some(10));
@@ -290,7 +283,8 @@ fn programs_get_json() {
     );
     assert!(output.stderr.is_empty());
     assert!(
-        wrote(&folder, &["check", "f.sdd", "--json"]).starts_with("{\"file\":\"f.sdd\",\"n\":3,\"d\":1,\"l\":512,")
+        wrote(&folder, &["check", "f.sdd", "--json"])
+            .starts_with("{\"file\":\"f.sdd\",\"form\":\"current\",\"n\":3,\"d\":1,\"l\":512,")
     );
     let cleared = wrote(&folder, &["clear", "f.sdd", "3", "--yes", "--json"]);
     assert!(cleared.contains("\n{\"event\":\"cleared\",\"slot\":3,\"held\":{\"source\":\"\","), "{cleared}");

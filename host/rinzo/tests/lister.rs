@@ -2,6 +2,7 @@
 //! the end of the input. What a call of the system answers is no part of a proof, so this is tried.
 #![cfg(not(feature = "stand-in"))]
 
+use sample::OldScan;
 use std::fs::File;
 use std::io::Write;
 use std::os::fd::OwnedFd;
@@ -48,6 +49,14 @@ fn a_file_that_ends_has_a_verdict() {
     says(&lister(File::open(here("crates/lister/stdin")).unwrap()), &list, "");
     says(&lister(stream(&file, false)), &list, "");
     says(&lister(stream(&file[..511], false)), "refused 1 slot 0\n", "");
+}
+
+#[test]
+fn an_old_file_is_listed_as_any_other() {
+    let scan = sample::scan(700, 1);
+    let scans = [(2, 2), (5, 1)].map(|(slot, magic)| OldScan { slot, magic, about: [7; 54], bytes: &scan });
+    let file = sample::old_file(3, 8, &scans);
+    says(&lister(stream(&file, false)), "slots 16 used 5 scans 2\n2 4 5\n5 6 7\n", "");
 }
 
 #[test]

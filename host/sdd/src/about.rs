@@ -2,7 +2,8 @@
 
 use crate::real::{Real4, Real8};
 
-/// The entry's bytes 8 to 61 by field. Every bit of the 54 bytes belongs to a field, so nothing is lost either way.
+/// The entry's bytes 8 to 61 by field, as the current form has them ([`Entry::about`](crate::Entry::about) gives an old
+/// entry's too). Every bit of the 54 bytes belongs to a field, so nothing is lost either way.
 ///
 /// ```
 /// # use sdd::About;

@@ -9,6 +9,7 @@
 
 use crate::about::About;
 use crate::device::Device;
+use crate::head::Head;
 use crate::job::{self, Job, Step, step};
 use crate::look::open;
 use crate::refusal::Refusal;
@@ -99,24 +100,11 @@ pub fn look<D: Device>(device: &mut D) -> Result<Vec<u8>, Dropped<D::Error>> {
     let failed = |error| Dropped::Failed(Doing::Reading, error);
     // zeroed memory that is never touched costs nothing on the systems this runs on
     let mut file = vec![0; device.length().map_err(failed)? as usize];
-    let boot = BOOT.min(file.len());
-    device.read(0, &mut file[..boot]).map_err(failed)?;
-    let head = head(&file[..boot]).min(file.len());
+    let words = Head::WORDS.min(file.len());
+    device.read(0, &mut file[..words]).map_err(failed)?;
+    let head = Head::of(&file).map_or(words, Head::bytes).min(file.len());
     device.read(0, &mut file[..head]).map_err(failed)?;
     Ok(file)
-}
-
-/// Bytes of the bootstrap's eight words.
-const BOOT: usize = 32;
-
-/// How many bytes records 1 to N have, by the bootstrap's words 1 and 3; the bootstrap alone where no file has such
-/// numbers, since the library refuses that whatever follows.
-fn head(boot: &[u8]) -> usize {
-    let word = |at: usize| boot.get(at..at + 4).map_or(0, |word| u32::from_be_bytes(word.try_into().unwrap()) as usize);
-    match (word(0), word(8)) {
-        (n @ 2..=513, l @ 512..=4_096) => n * l,
-        _ => BOOT,
-    }
 }
 
 /// Runs a job to its confirmation. `file` is the memory that the job was begun on, of the file's whole length, with at

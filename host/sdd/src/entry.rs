@@ -68,10 +68,14 @@ pub struct Entry {
     pub number: i16,
     /// Position code.
     pub position: i16,
+    /// What an old file says of the scan's own form: 1 IEEE KEEP, 2 SDD version 1, which alone is read. 0 in a file of the
+    /// current form, which says nothing ([`Sizes::form`](crate::Sizes::form) tells the two apart).
+    pub magic: i16,
 }
 
 impl Entry {
-    /// What the entry says beside its records: lend it to a save, and the scan is kept under the same entry.
+    /// What the entry says beside its records: lend it to a save, and the scan is kept under the same entry. Of an old
+    /// file's entry too, whose position code stands elsewhere; its magic number has no place in the current form.
     pub fn about(&self) -> About {
         let (field4, field8) = self.kind.fields();
         About {
@@ -108,6 +112,7 @@ impl Entry {
             mode: entry.mode,
             number: entry.number,
             position: entry.position,
+            magic: entry.magic,
         }
     }
 }

@@ -65,7 +65,7 @@ pub enum Step {
     },
 }
 
-/// Makes a file without scans of the first N records: refusal 16. The bytes after them stay.
+/// Makes a file without scans, of the current form, of the first N records: refusal 16. The bytes after them stay.
 pub fn blank(file: &mut [u8], n: u64, l: u64, m: u64) -> Result<(), Refusal> {
     // SAFETY: the pointer and the length are those of a slice borrowed for writing.
     let why = unsafe { (calls().blank)(file.as_mut_ptr(), file.len(), n, l, m) };
@@ -95,7 +95,7 @@ pub fn clear(file: &[u8], slot: u64) -> Result<Job, Refusal> {
     accepted(begun.why, Job(begun.job))
 }
 
-/// Does the next step: refusals 14, and for the confirming step 1 to 8 and 15.
+/// Does the next step: refusals 14 (always on an old file), and for the confirming step 1, 3 to 8 and 15.
 /// The scan is the one the job was begun with, empty for a clear. The job moves
 /// on where the step is accepted and stays as it was where it is refused.
 ///

@@ -7,7 +7,8 @@
 //! A file is a slice of bytes, perhaps longer than what is in use. The calls
 //! that look at it are [`open`], [`list`], [`entry`], [`show`] and [`read`];
 //! [`class`], [`classes`] and [`data`] take a scan apart. [`blank`] makes an
-//! empty file.
+//! empty file. Files of the old form, from before 1993, are looked at like any
+//! other ([`Form`] says which it is), and not changed.
 //!
 //! # To save a scan
 //! [`drive`] runs a job on a [`Device`]: it writes each record durably, reads
@@ -72,6 +73,7 @@ mod about;
 mod device;
 pub mod drive;
 mod entry;
+mod head;
 mod job;
 mod linked;
 mod look;
@@ -84,15 +86,16 @@ pub mod stack;
 pub use about::{About, NameTooLong};
 pub use device::Device;
 pub use entry::{Entry, Kind};
+pub use head::Head;
 pub use job::{Job, Step, blank, clear, keep, save, step};
 pub use look::{Listed, Span, class, classes, data, entry, list, open, read, show};
 pub use real::{Real4, Real8};
 pub use refusal::{Refusal, Rule};
-pub use sizes::Sizes;
+pub use sizes::{Form, Sizes};
 
 /// The numbers of the C face by name, for programs that keep or send them. Here the enums stand for them.
 pub mod numbers {
-    pub use face::{done, kind, refused};
+    pub use face::{done, kind, refused, version};
 }
 
 /// The table of calls that this crate was linked with, for the comparison with the model.

@@ -32,14 +32,14 @@ fn span(answer: face::Span) -> Result<Span, Refusal> {
     accepted(answer.why, answer.from as usize..answer.to as usize)
 }
 
-/// Judges a file: refusals 1 to 8.
+/// Judges a file of either form: refusals 1, 3 to 8.
 pub fn open(file: &[u8]) -> Result<Sizes, Refusal> {
     // SAFETY: the pointer and the length are those of a slice.
     let answer = unsafe { (calls().open)(file.as_ptr(), file.len()) };
     accepted(answer.why, Sizes::of(answer))
 }
 
-/// The scans of a file, in slot order: refusals 1 to 8.
+/// The scans of a file, in slot order: refusals 1, 3 to 8.
 pub fn list(file: &[u8]) -> Result<Vec<Listed>, Refusal> {
     let capacity = open(file)?.capacity as usize;
     let mut out = vec![0u32; 3 * capacity];
@@ -49,20 +49,20 @@ pub fn list(file: &[u8]) -> Result<Vec<Listed>, Refusal> {
     Ok(out.chunks_exact(3).take(scans).map(|row| Listed { slot: row[0], first: row[1], last: row[2] }).collect())
 }
 
-/// The index entry of a slot: refusals 1 to 10.
+/// The index entry of a slot: refusals 1, 3 to 10.
 pub fn entry(file: &[u8], slot: u64) -> Result<Entry, Refusal> {
     // SAFETY: as in `open`.
     let answer = unsafe { (calls().entry_at)(file.as_ptr(), file.len(), slot) };
     accepted(answer.why, Entry::of(answer))
 }
 
-/// Where a slot's records are in the file: refusals 1 to 10.
+/// Where a slot's records are in the file: refusals 1, 3 to 10.
 pub fn show(file: &[u8], slot: u64) -> Result<Span, Refusal> {
     // SAFETY: as in `open`.
     span(unsafe { (calls().show)(file.as_ptr(), file.len(), slot) })
 }
 
-/// Where a slot's scan is in the file: refusals 1 to 11.
+/// Where a slot's scan is in the file: refusals 1, 3 to 10, 18, 11.
 pub fn read(file: &[u8], slot: u64) -> Result<Span, Refusal> {
     // SAFETY: as in `open`.
     span(unsafe { (calls().read)(file.as_ptr(), file.len(), slot) })

@@ -8,7 +8,7 @@ use face::refused;
 pub enum Refusal {
     /// 1: fewer than 512 bytes.
     TooShort,
-    /// 2: the old form of file.
+    /// 2: a file of the old form, which is not changed.
     OldForm,
     /// 3: no version that is known.
     UnknownVersion,
@@ -40,6 +40,8 @@ pub enum Refusal {
     BadSizes,
     /// 17: what was lent for the answer is too short to hold it.
     AnswerTooLong,
+    /// 18: an old file says that the scan is not of version 1.
+    NotVersionOne,
 }
 
 /// The rule that a scan breaks: the reason in refusal 11.
@@ -93,11 +95,12 @@ impl Refusal {
             refused::NOT_CONFIRMED => Refusal::NotConfirmed,
             refused::BAD_SIZES => Refusal::BadSizes,
             refused::ANSWER_TOO_LONG => Refusal::AnswerTooLong,
+            refused::NOT_VERSION_ONE => Refusal::NotVersionOne,
             other => unreachable!("the library refused with number {other}, which this crate does not know"),
         })
     }
 
-    /// The paper's number, 1 to 17.
+    /// The paper's number, 1 to 18.
     pub fn number(self) -> u32 {
         match self {
             Refusal::TooShort => refused::TOO_SHORT,
@@ -117,6 +120,7 @@ impl Refusal {
             Refusal::NotConfirmed => refused::NOT_CONFIRMED,
             Refusal::BadSizes => refused::BAD_SIZES,
             Refusal::AnswerTooLong => refused::ANSWER_TOO_LONG,
+            Refusal::NotVersionOne => refused::NOT_VERSION_ONE,
         }
     }
 

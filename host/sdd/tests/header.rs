@@ -16,7 +16,7 @@ fn refusals() -> Vec<Refusal> {
     let rules = [Length, Classes, Starts, Head, Data, Whole].map(BadScan);
     let before = [TooShort, OldForm, UnknownVersion, BadBootstrap, CutShort];
     let slots = [BadEntry(5), EntryAboveUsed(6), SharedRecord(7), NoSuchSlot, EmptySlot];
-    let after = [NoEmptySlot, NoRoom, JobDisagrees, NotConfirmed, BadSizes, AnswerTooLong];
+    let after = [NoEmptySlot, NoRoom, JobDisagrees, NotConfirmed, BadSizes, AnswerTooLong, NotVersionOne];
     [&before[..], &slots, &rules, &after].concat()
 }
 
@@ -45,8 +45,12 @@ fn constants() -> BTreeMap<String, usize> {
 fn the_header_names_every_number() {
     let mut wanted: BTreeMap<String, usize> =
         refusals().into_iter().map(|refusal| (c_name(refusal), refusal.number() as usize)).collect();
-    assert_eq!(wanted.len(), 17);
-    use sdd::numbers::{done, kind};
+    assert_eq!(wanted.len(), 18);
+    use sdd::numbers::{done, kind, version};
+    wanted.extend(
+        [("OLD", version::OLD), ("CURRENT", version::CURRENT)]
+            .map(|(name, number)| (format!("SDD_{name}"), number as usize)),
+    );
     wanted.extend(
         [("WROTE", done::WROTE), ("SAVED", done::SAVED), ("CLEARED", done::CLEARED)]
             .map(|(name, number)| (format!("SDD_{name}"), number as usize)),

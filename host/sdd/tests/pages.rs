@@ -76,6 +76,7 @@ fn every_refusal_has_its_row() {
         NotConfirmed,
         BadSizes,
         AnswerTooLong,
+        NotVersionOne,
     ];
     for refusal in all {
         let (what, to_do) = refusal.sentence().split_once(": ").unwrap();

@@ -40,6 +40,7 @@ fn every_refusal_has_its_number_and_a_sentence() {
         NotConfirmed,
         BadSizes,
         AnswerTooLong,
+        NotVersionOne,
     ];
     assert_eq!((sdd::numbers::refused::NO_ROOM, NoRoom.number()), (13, 13));
     for (number, refusal) in (1..).zip(all) {
@@ -49,13 +50,14 @@ fn every_refusal_has_its_number_and_a_sentence() {
             "{refusal} does not say what to do"
         );
     }
-    assert_eq!(all.map(Refusal::value), [0, 0, 0, 0, 0, 5, 6, 7, 0, 0, 4, 0, 0, 0, 0, 0, 0]);
+    assert_eq!(all.map(Refusal::value), [0, 0, 0, 0, 0, 5, 6, 7, 0, 0, 4, 0, 0, 0, 0, 0, 0, 0]);
 }
 
 #[test]
 fn refusals_come_as_cases() {
     assert_eq!(sdd::open(&[]), Err(Refusal::TooShort));
-    assert_eq!(sdd::open(&[0; 512]), Err(Refusal::OldForm));
+    assert_eq!(sdd::open(&[0; 512]), Err(Refusal::BadBootstrap));
+    assert_eq!(sdd::clear(&[0; 512], 1), Err(Refusal::OldForm));
     let mut file = file();
     assert_eq!(sdd::entry(&file, 17), Err(Refusal::NoSuchSlot));
     assert_eq!(sdd::show(&file, 1), Err(Refusal::EmptySlot));

@@ -1,6 +1,6 @@
 //! Damage: to scans at every rule, to files at every refusal.
 
-use crate::cases::shape::{Shape, get32, home, put32};
+use crate::cases::shape::{Form, Shape};
 use crate::rng::Rng;
 
 fn half(bytes: &[u8], at: usize) -> i16 {
@@ -109,7 +109,7 @@ pub fn scan_length(rng: &mut Rng, scan: &mut Vec<u8>) {
 pub fn file(rng: &mut Rng, file: &mut Vec<u8>, shape: &Shape) {
     match rng.below(12) {
         0 | 1 => boot_word(rng, file, shape),
-        2 => file_length(rng, file),
+        2 => file_length(rng, file, shape),
         3..=6 if file.len() >= 512 => entry_run(rng, file, shape),
         7 | 8 if file.len() >= 512 => shared_run(rng, file, shape),
         9 | 10 if file.len() >= 512 => entry_above(rng, file, shape),
@@ -128,31 +128,40 @@ fn boot_word(rng: &mut Rng, file: &mut [u8], shape: &Shape) {
     if file.len() < 32 {
         return;
     }
-    let word = rng.below(8) as usize;
-    let now = get32(file, 4 * word);
-    let (n, capacity) = (get32(file, 0), shape.capacity());
+    let word = rng.between(1, 8) as usize;
+    let now = shape.word(file, word);
+    let (n, capacity) = (shape.word(file, 1), shape.capacity());
     let edges: &[u64] = match word {
-        0 => &[0, 1, 2, 513, 514],
-        1 => &[0, 1_000_000 - n.min(1_000_000), 1_000_001 - n.min(1_000_000), file.len() as u64 / shape.l - n.min(2)],
-        2 => &[0, 511, 512, 4_096, 4_097],
-        3 => &[0, 63, 64, 65, 96, shape.l, shape.l + 1],
-        4 => &[0, capacity - 1, capacity, capacity + 1],
-        5 => &[0, u32::MAX as u64],
-        6 => &[0, 1, 2],
-        _ => &[0, 1, 2, 0x0100, 0x0100_0000],
+        1 => &[0, 1, 2, 513, 514],
+        2 => &[0, 1_000_000 - n.min(1_000_000), 1_000_001 - n.min(1_000_000), file.len() as u64 / shape.l - n.min(2)],
+        3 => &[0, 511, 512, 4_096, 4_097],
+        4 => &[0, 63, 64, 65, 96, shape.l, shape.l + 1],
+        5 => &[0, capacity - 1, capacity, capacity + 1],
+        6 => &[0, u32::MAX as u64],
+        7 => &[0, 1, 2],
+        _ => &[0, 1, 2, 0x0100, 0x0001_0000, 0x0001_0001, 0x0100_0000],
     };
     let new = match rng.below(10) {
         0..=5 => rng.pick(edges),
         6 => now.wrapping_sub(1),
         7 => now + 1,
-        8 => rng.pick(&[0x7fff_ffff, 0x8000_0000, 0xffff_ffff]),
+        8 => far_number(rng, shape),
         _ => rng.next(),
     };
-    put32(file, 4 * word, new);
+    shape.put_word(file, word, new);
 }
 
-fn file_length(rng: &mut Rng, file: &mut Vec<u8>) {
-    let in_use = if file.len() >= 32 { (get32(file, 0) + get32(file, 4)) * get32(file, 8) } else { 0 };
+/// About the sign: the highest number of the form's words, the lowest negative one, minus one.
+fn far_number(rng: &mut Rng, shape: &Shape) -> u64 {
+    match shape.form {
+        Form::Old => rng.pick(&[0x7fff, 0x8000, 0xffff]),
+        Form::Current => rng.pick(&[0x7fff_ffff, 0x8000_0000, 0xffff_ffff]),
+    }
+}
+
+fn file_length(rng: &mut Rng, file: &mut Vec<u8>, shape: &Shape) {
+    let word = |number| shape.word(file, number);
+    let in_use = if file.len() >= 32 { (word(1) + word(2)) * word(3) } else { 0 };
     let edges = [0, 1, 31, 32, 511, 512, 513, in_use.saturating_sub(1), in_use, in_use + 1];
     let new = if rng.percent(80) { rng.pick(&edges) } else { rng.below(file.len() as u64 + 1) };
     // never far longer than it was, whatever the words say
@@ -169,11 +178,10 @@ fn entry_run(rng: &mut Rng, file: &mut [u8], shape: &Shape) {
     if within == 0 {
         return;
     }
-    let u = get32(file, 16);
+    let u = shape.word(file, 5);
     let slot = if rng.percent(70) && u >= 1 { rng.between(1, u.min(within)) } else { rng.between(1, within) };
-    let at = home(shape, slot);
-    let (first, last) = (get32(file, at), get32(file, at + 4));
-    let (low, high) = (shape.n + 1, shape.n + get32(file, 4));
+    let (first, last) = shape.run(file, slot);
+    let (low, high) = (shape.n + 1, shape.n + shape.word(file, 2));
     let near = [
         0,
         1,
@@ -188,36 +196,30 @@ fn entry_run(rng: &mut Rng, file: &mut [u8], shape: &Shape) {
         first,
         last,
     ];
-    let far = [0x7fff_ffff, 0x8000_0000, 0xffff_ffff, rng.next()];
+    let far = [far_number(rng, shape), rng.next()];
     let mut number = || if rng.percent(90) { rng.pick(&near) } else { rng.pick(&far) };
     let (new_first, new_last) = (number(), number());
-    match rng.below(4) {
-        0 => put32(file, at, new_first),
-        1 => put32(file, at + 4, new_last),
-        2 => {
-            put32(file, at, last);
-            put32(file, at + 4, first);
-        }
-        _ => {
-            put32(file, at, new_first);
-            put32(file, at + 4, new_last);
-        }
-    }
+    let (first, last) = match rng.below(4) {
+        0 => (new_first, last),
+        1 => (first, new_last),
+        2 => (last, first),
+        _ => (new_first, new_last),
+    };
+    shape.put_run(file, slot, first, last);
 }
 
 /// Gives a slot up to U a run that meets another slot's, in one record or more.
 fn shared_run(rng: &mut Rng, file: &mut [u8], shape: &Shape) {
-    let u = get32(file, 16).min(slots_within(file, shape));
+    let u = shape.word(file, 5).min(slots_within(file, shape));
     if u < 2 {
         return;
     }
-    let (low, high) = (shape.n + 1, shape.n + get32(file, 4));
-    let run = |file: &[u8], slot| (get32(file, home(shape, slot)), get32(file, home(shape, slot) + 4));
-    let filled: Vec<u64> = (1..=u).filter(|slot| run(file, *slot).0 != 0).collect();
+    let (low, high) = (shape.n + 1, shape.n + shape.word(file, 2));
+    let filled: Vec<u64> = (1..=u).filter(|slot| shape.run(file, *slot).0 != 0).collect();
     if filled.is_empty() {
         return;
     }
-    let (first, last) = run(file, rng.pick(&filled));
+    let (first, last) = shape.run(file, rng.pick(&filled));
     let slot = if rng.percent(60) { rng.pick(&filled) } else { rng.between(1, u) };
     let (new_first, new_last) = match rng.below(5) {
         0 => (first, last),
@@ -226,21 +228,20 @@ fn shared_run(rng: &mut Rng, file: &mut [u8], shape: &Shape) {
         3 => (last + 1, last + 2),
         _ => (low, high),
     };
-    let at = home(shape, slot);
-    put32(file, at, new_first.clamp(low.min(high), high));
-    put32(file, at + 4, new_last.clamp(low.min(high), high));
+    let within = |record: u64| record.clamp(low.min(high), high);
+    shape.put_run(file, slot, within(new_first), within(new_last));
 }
 
 fn entry_above(rng: &mut Rng, file: &mut [u8], shape: &Shape) {
-    let (u, within) = (get32(file, 16), slots_within(file, shape));
+    let (u, within) = (shape.word(file, 5), slots_within(file, shape));
     if u >= within {
         // make some entries stand above U
-        put32(file, 16, rng.below(within.max(1)));
+        shape.put_word(file, 5, rng.below(within.max(1)));
         return;
     }
     let slot = if rng.percent(50) { u + 1 } else { rng.between(u + 1, within) };
-    let record = shape.n + 1 + rng.below(get32(file, 4).clamp(1, 40));
-    let last = rng.pick(&[record, 0, 1]);
-    put32(file, home(shape, slot), if last == 1 { 0 } else { record });
-    put32(file, home(shape, slot) + 4, last);
+    let record = shape.n + 1 + rng.below(shape.word(file, 2).clamp(1, 40));
+    let far = far_number(rng, shape);
+    let (first, last) = rng.pick(&[(record, record), (record, 0), (0, 1), (far, far)]);
+    shape.put_run(file, slot, first, last);
 }

@@ -1,11 +1,16 @@
 //! Files, scans and entries that are as they should be, but for a scan in a file now and then.
 
 use crate::cases::damage;
-use crate::cases::shape::{Shape, home, put32};
+use crate::cases::shape::{Form, Shape, home, put16};
 use crate::rng::Rng;
 use model::About;
 
-/// A shape for a file of some kilobytes.
+/// One of the forms; the old one less often.
+pub fn any_form(rng: &mut Rng) -> Form {
+    if rng.percent(25) { Form::Old } else { Form::Current }
+}
+
+/// A shape for a file of some kilobytes, in the current form.
 pub fn small_shape(rng: &mut Rng) -> Shape {
     let m = match rng.below(6) {
         0 | 1 => 64,
@@ -16,17 +21,18 @@ pub fn small_shape(rng: &mut Rng) -> Shape {
     };
     let (fewest, most) = (512u64.div_ceil(m), 4_096 / m);
     let per_record = if rng.percent(85) { (fewest + rng.below(3)).min(most) } else { rng.between(fewest, most) };
-    Shape { n: rng.between(2, 5), l: m * per_record, m }
+    Shape { n: rng.between(2, 5), l: m * per_record, m, form: Form::Current }
 }
 
 /// A shape with many slots, up to 4,096.
 pub fn wide_shape(rng: &mut Rng) -> Shape {
-    match rng.below(5) {
-        0 | 1 => Shape { n: 513, l: 512, m: 64 },
-        2 => Shape { n: 65, l: 4_096, m: 64 },
-        3 => Shape { n: 129, l: 512, m: 64 },
-        _ => Shape { n: rng.between(200, 240), l: 1_088, m: 64 },
-    }
+    let (n, l) = match rng.below(5) {
+        0 | 1 => (513, 512),
+        2 => (65, 4_096),
+        3 => (129, 512),
+        _ => (rng.between(200, 240), 1_088),
+    };
+    Shape { n, l, m: 64, form: any_form(rng) }
 }
 
 /// Puts the runs of some scans into the index; the rest of each entry stays random.
@@ -45,8 +51,7 @@ fn put_runs(rng: &mut Rng, file: &mut [u8], shape: &Shape, d: u64, fill: u64) ->
         let Some(slot) = slots.pop() else { break };
         let longest = (shape.n + d - record + 1).min(if rng.percent(3) { 300 } else { 4 });
         let last = record + rng.below(longest);
-        put32(file, home(shape, slot), record);
-        put32(file, home(shape, slot) + 4, last);
+        shape.put_run(file, slot, record, last);
         put_scan(rng, &mut file[((record - 1) * shape.l) as usize..(last * shape.l) as usize]);
         highest = highest.max(slot);
         record = last + 1;
@@ -66,27 +71,54 @@ fn put_scan(rng: &mut Rng, run: &mut [u8]) {
     run[..made.len()].copy_from_slice(&made);
 }
 
+/// Magic numbers: mostly that of a version 1 scan, and those that are nearly so.
+fn random_magic(rng: &mut Rng) -> u64 {
+    match rng.below(10) {
+        0..=4 => 2,
+        5 | 6 => rng.pick(&[0, 0x0102, 0x0200, 0x8002, 0xfffe]),
+        7 => rng.next(),
+        _ => rng.pick(&[1, 3]),
+    }
+}
+
+/// Puts the bootstrap. An old one has no type; what stands in that place is junk, or a type as the current form has it.
+fn put_boot(rng: &mut Rng, file: &mut [u8], shape: &Shape, d: u64, u: u64) {
+    let counter = rng.pick(&[0, 1, u64::from(u32::MAX), 0x7fff_ffff, 0x8000]);
+    for (i, number) in [shape.n, d, shape.l, shape.m, u, counter].into_iter().enumerate() {
+        shape.put_word(file, i + 1, number);
+    }
+    match rng.below(4) {
+        0 if shape.is_old() => file[12..28].fill(0),
+        1 if shape.is_old() => (),
+        _ => shape.put_word(file, 7, rng.below(2)),
+    }
+    if shape.is_old() && rng.percent(30) {
+        file[32..shape.l as usize].fill(0);
+    }
+    shape.put_word(file, 8, u64::from(!shape.is_old()));
+}
+
 /// A file that opens, with scans in some of its `d` data records and `tail` bytes more
 /// than it uses. Every byte that is not judged is random.
 pub fn file(rng: &mut Rng, shape: &Shape, d: u64, tail: usize, fill: u64) -> Vec<u8> {
     let mut file = rng.bytes(((shape.n + d) * shape.l) as usize + tail);
     for slot in 1..=shape.capacity() {
-        file[home(shape, slot)..][..8].fill(0);
+        shape.put_run(&mut file, slot, 0, 0);
+        if shape.is_old() {
+            put16(&mut file, home(shape, slot) + 4, random_magic(rng));
+        }
         let mode = random_mode(rng).to_be_bytes();
         file[home(shape, slot) + 56..][..2].copy_from_slice(&mode);
     }
     let highest = put_runs(rng, &mut file, shape, d, fill);
     let u = if rng.percent(40) { highest } else { rng.between(highest, shape.capacity().max(highest)) };
-    let counter = rng.pick(&[0, 1, u64::from(u32::MAX), 0x7fff_ffff]);
-    for (i, word) in [shape.n, d, shape.l, shape.m, u, counter, rng.below(2), 1].into_iter().enumerate() {
-        put32(&mut file, 4 * i, word);
-    }
+    put_boot(rng, &mut file, shape, d, u);
     file
 }
 
-/// A small file that opens.
-pub fn small_file(rng: &mut Rng) -> (Shape, Vec<u8>) {
-    let shape = small_shape(rng);
+/// A small file of this form that opens.
+pub fn small_file(rng: &mut Rng, form: Form) -> (Shape, Vec<u8>) {
+    let shape = Shape { form, ..small_shape(rng) };
     let d = if rng.percent(10) { 0 } else { rng.between(1, 20) };
     let tail = match rng.below(4) {
         0 => 0,

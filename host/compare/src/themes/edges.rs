@@ -3,7 +3,7 @@
 use super::files;
 use crate::call::Call;
 use crate::cases::make;
-use crate::cases::shape::{Shape, get32, home, put32};
+use crate::cases::shape::{Form, Shape};
 use crate::rng::Rng;
 use crate::world::{Round, World};
 
@@ -31,9 +31,9 @@ pub fn round(world: &mut World) -> Round {
     let rng = &mut world.rng;
     let shape = if rng.percent(40) {
         let (n, l, m) = rng.pick(&EDGES);
-        Shape { n, l, m }
+        Shape { n, l, m, form: make::any_form(rng) }
     } else {
-        make::small_shape(rng)
+        Shape { form: make::any_form(rng), ..make::small_shape(rng) }
     };
     let d = rng.below(6);
     let tail = rng.below(3 * shape.l) as usize;
@@ -41,7 +41,7 @@ pub fn round(world: &mut World) -> Round {
     if rng.percent(80) {
         one_number(rng, &mut file, &shape, d);
     }
-    world.set_file(file);
+    world.set_file_of(shape.form, file);
     ask(world, &shape)
 }
 
@@ -50,20 +50,28 @@ fn one_number(rng: &mut Rng, file: &mut Vec<u8>, shape: &Shape, d: u64) {
     let lent = file.len() as u64 / shape.l;
     let in_use = ((shape.n + d) * shape.l) as usize;
     match rng.below(12) {
-        0 => put32(file, 0, rng.pick(&[1, 514])),
-        1 => put32(file, 16, shape.capacity() + rng.below(2)),
-        2 => put32(file, 24, rng.between(1, 2)),
-        3 => put32(file, 28, rng.pick(&[0, 2])),
-        4 => put32(file, 4, 1_000_000 - shape.n + rng.below(2)),
-        5 => put32(file, 4, lent - shape.n + rng.below(2)),
+        0 => shape.put_word(file, 1, rng.pick(&[1, 514])),
+        1 => shape.put_word(file, 5, shape.capacity() + rng.below(2)),
+        2 => shape.put_word(file, 7, rng.between(1, 2)),
+        3 => shape.put_word(file, 8, rng.pick(&[0, 1, 2])),
+        4 => shape.put_word(file, 2, most_data(shape) + rng.below(2)),
+        5 => shape.put_word(file, 2, lent - shape.n + rng.below(2)),
         6 => file.truncate(in_use - rng.below(2) as usize),
         7 => file.truncate(rng.pick(&[511, 512, 511, 0])),
         8 => {
-            put32(file, 0, 1);
-            put32(file, 16, 0);
+            shape.put_word(file, 1, 1);
+            shape.put_word(file, 5, 0);
         }
         9 => two_faults(rng, file, shape),
         _ => one_run(rng, file, shape, d),
+    }
+}
+
+/// The most data records that the form can say.
+fn most_data(shape: &Shape) -> u64 {
+    match shape.form {
+        Form::Old => 32_767,
+        Form::Current => 1_000_000 - shape.n,
     }
 }
 
@@ -72,11 +80,10 @@ fn two_faults(rng: &mut Rng, file: &mut [u8], shape: &Shape) {
     if shape.capacity() < 3 {
         return;
     }
-    let (low, high) = (shape.n + 1, shape.n + get32(file, 4));
-    put32(file, 16, 2);
+    let (low, high) = (shape.n + 1, shape.n + shape.word(file, 2));
+    shape.put_word(file, 5, 2);
     for slot in [1, 2, shape.capacity()] {
-        put32(file, home(shape, slot), low);
-        put32(file, home(shape, slot) + 4, if rng.percent(20) { high + 1 } else { high.max(low) });
+        shape.put_run(file, slot, low, if rng.percent(20) { high + 1 } else { high.max(low) });
     }
 }
 
@@ -85,12 +92,12 @@ fn one_run(rng: &mut Rng, file: &mut [u8], shape: &Shape, d: u64) {
     let (low, high) = (shape.n + 1, shape.n + d);
     let (first, last) =
         rng.pick(&[(low, low), (low - 1, low), (low, high), (low, high + 1), (high, low), (0, low), (low, 0), (0, 0)]);
-    put32(file, 16, get32(file, 16).max(1));
-    put32(file, home(shape, 1), first);
-    put32(file, home(shape, 1) + 4, last);
+    shape.put_word(file, 5, shape.word(file, 5).max(1));
+    shape.put_run(file, 1, first, last);
 }
 
-fn ask(world: &mut World, shape: &Shape) -> Round {
+/// What a reader asks of a file, and what a blank makes of it.
+pub fn ask(world: &mut World, shape: &Shape) -> Round {
     world.call(Call::Open)?;
     files::list(world, shape)?;
     for slot in [0, 1, shape.capacity(), shape.capacity() + 1] {

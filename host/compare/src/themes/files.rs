@@ -8,11 +8,12 @@ use crate::world::{Round, World};
 
 pub fn round(world: &mut World) -> Round {
     let rng = &mut world.rng;
-    let (shape, mut file) = make::small_file(rng);
+    let form = make::any_form(rng);
+    let (shape, mut file) = make::small_file(rng, form);
     for _ in 0..rng.pick(&[0, 0, 1, 1, 2, 3]) {
         damage::file(rng, &mut file, &shape);
     }
-    world.set_file(file);
+    world.set_file_of(shape.form, file);
     ask_everything(world, &shape)
 }
 

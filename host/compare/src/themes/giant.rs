@@ -4,16 +4,16 @@ use super::files;
 use super::shared::jobs;
 use crate::call::Call;
 use crate::cases::make;
-use crate::cases::shape::{Shape, put32};
+use crate::cases::shape::{Form, Shape, put32};
 use crate::world::{Round, World};
 
 const MOST: u64 = 1_000_000;
 
 pub fn round(world: &mut World) -> Round {
-    let shape = Shape { n: world.rng.between(2, 4), l: 512, m: 64 };
+    let shape = Shape { n: world.rng.between(2, 4), l: 512, m: 64, form: Form::Current };
     let records = MOST + world.rng.pick(&[1, 2, 5]);
     let extra = world.rng.below(shape.l);
-    world.set_zeros((records * shape.l + extra) as usize);
+    world.set_zeros(shape.form, (records * shape.l + extra) as usize);
     world.call(Call::Blank { n: shape.n, l: shape.l, m: shape.m })?;
     nearly_full(world, &shape);
     world.call(Call::Open)?;

@@ -1,12 +1,13 @@
 //! Runs of bytes: the rules, the classes and the data.
 
 use crate::call::Call;
+use crate::cases::shape::Form;
 use crate::cases::{damage, make};
 use crate::world::{Round, World};
 
 pub fn round(world: &mut World) -> Round {
     let rng = &mut world.rng;
-    let (_, file) = make::small_file(rng);
+    let (_, file) = make::small_file(rng, Form::Current);
     world.set_file(file);
     for _ in 0..4 {
         match world.rng.below(10) {

@@ -16,7 +16,7 @@ pub fn round(world: &mut World) -> Round {
     for _ in 0..rng.pick(&[0, 0, 1, 2]) {
         damage::file(rng, &mut file, &shape);
     }
-    world.set_file(file);
+    world.set_file_of(shape.form, file);
     files::ask_everything(world, &shape)?;
     jobs::new_scan(world);
     if let Some(job) = world.begin(Call::Keep)? {

@@ -1,24 +1,55 @@
-//! List, entry, show, read, class and data.
+//! Open, list, entry, show, read, class and data.
 
 use crate::ground::bytes::{be16, be32, be64};
 use crate::ground::line::or;
-use crate::rules::boot::{Answer, Sizes, refuse};
+use crate::rules::boot::{Answer, Sizes, changeable, refuse};
 use crate::rules::index::{Run, judge, listed};
 use crate::rules::scan::rules;
-use face::{Entry, Refusal};
+use face::{Entry, Opened, Refusal};
+
+#[inline]
+pub fn open<const X: u32>(file: &[u8]) -> Answer<Opened> {
+    if X == 120 {
+        changeable::<X>(file)?;
+    }
+    let z = judge::<X>(file)?.sizes;
+    Ok(Opened {
+        why: Refusal::NONE,
+        n: z.n,
+        d: z.d,
+        l: z.l,
+        m: z.m,
+        u: z.u,
+        counter: z.counter,
+        kind: z.kind,
+        capacity: z.capacity(),
+        room: z.room::<X>(file.len() as u64),
+        version: u64::from(!z.old || X == 121),
+    })
+}
 
 /// Fills `out` with slot, first and last of each scan; answers how many scans. They are counted first only where `out`
 /// may be too short for them.
 pub fn list<const X: u32>(file: &[u8], out: &mut [u32]) -> Answer<u64> {
+    if X == 101 {
+        changeable::<X>(file)?;
+    }
     let sizes = judge::<X>(file)?.sizes;
+    if sizes.old { list_in::<X, true>(file, &sizes, out) } else { list_in::<X, false>(file, &sizes, out) }
+}
+
+fn list_in<const X: u32, const OLD: bool>(file: &[u8], sizes: &Sizes, out: &mut [u32]) -> Answer<u64> {
     if (out.len() as u64) < 3 * sizes.u + or::<X, _>(48, 0, 1) {
-        let scans = listed::<X>(file, &sizes).count();
+        let scans = listed::<X, OLD>(file, sizes).count();
         if out.len() < 3 * scans + or::<X, _>(48, 0, 1) {
             return refuse(17, 0);
         }
     }
     let mut scans = 0;
-    for (row, (slot, run)) in out.chunks_exact_mut(3).zip(listed::<X>(file, &sizes)) {
+    for (row, (slot, run)) in out.chunks_exact_mut(3).zip(listed::<X, OLD>(file, sizes)) {
+        if X == 124 && !version_one::<X>(file, sizes, slot) {
+            continue;
+        }
         row.copy_from_slice(&[slot as u32, run.first as u32, run.last as u32]);
         scans += 1;
     }
@@ -28,13 +59,13 @@ pub fn list<const X: u32>(file: &[u8], out: &mut [u32]) -> Answer<u64> {
     Ok(scans as u64)
 }
 
-/// The run of a slot that has a scan: refusals 1 to 10.
+/// The run of a slot that has a scan: refusals 1 and 3 to 10.
 pub fn occupied<const X: u32>(file: &[u8], slot: u64) -> Answer<(Sizes, Run)> {
     let sizes = judge::<X>(file)?.sizes;
     if !sizes.has::<X>(slot) {
         return refuse(9, 0);
     }
-    let run = Run::at(file, &sizes, slot);
+    let run = Run::at::<X>(file, &sizes, slot);
     if run.is_empty::<X>() {
         return refuse(10, 0);
     }
@@ -51,7 +82,23 @@ fn kind<const X: u32>(mode: i16) -> u16 {
     }
 }
 
+/// What an old entry says of its scan's form; the current form has no such number.
+fn magic<const X: u32>(file: &[u8], sizes: &Sizes, slot: u64) -> i16 {
+    let slot = or::<X, _>(102, slot, slot.max(2) - 1);
+    if sizes.old { be16(file, sizes.home(slot) + 4) } else { or::<X, _>(103, 0, 2) }
+}
+
+/// Whether a scan may be read, as far as its entry says.
+fn version_one<const X: u32>(file: &[u8], sizes: &Sizes, slot: u64) -> bool {
+    let magic = magic::<X>(file, sizes, slot);
+    let magic = or::<X, _>(104, magic, magic & 0xff);
+    (!sizes.old && X != 105) || magic == 2 || (X == 106 && magic == 1)
+}
+
 pub fn entry<const X: u32>(file: &[u8], slot: u64) -> Answer<Entry> {
+    if X == 107 {
+        changeable::<X>(file)?;
+    }
     let (sizes, run) = occupied::<X>(file, slot)?;
     let bytes = &file[sizes.home(slot)..][..64];
     let mode = be16(bytes, 56);
@@ -70,7 +117,8 @@ pub fn entry<const X: u32>(file: &[u8], slot: u64) -> Answer<Entry> {
         date: be32(bytes, 52),
         mode,
         number: be16(bytes, 58),
-        position: be16(bytes, 60),
+        position: be16(bytes, if sizes.old { or::<X, _>(108, 6, 60) } else { 60 }),
+        magic: magic::<X>(file, &sizes, slot),
         kind: kind::<X>(mode),
         single_value: f32::from_bits(field4 & or::<X, _>(52, u32::MAX, 0xff80_0000 | (field4 & 0x007f_fffe))),
         double_value: f64::from_bits(field8),
@@ -78,12 +126,40 @@ pub fn entry<const X: u32>(file: &[u8], slot: u64) -> Answer<Entry> {
 }
 
 pub fn show<const X: u32>(file: &[u8], slot: u64) -> Answer<(u64, u64)> {
+    if X == 109 {
+        changeable::<X>(file)?;
+    }
     let (sizes, run) = occupied::<X>(file, slot)?;
-    Ok(((run.first - 1) * sizes.l, run.last * sizes.l))
+    if X == 110 && !version_one::<X>(file, &sizes, slot) {
+        return refuse(18, 0);
+    }
+    Ok(records(&sizes, &run))
+}
+
+/// The bytes of a run's records.
+fn records(sizes: &Sizes, run: &Run) -> (u64, u64) {
+    ((run.first - 1) * sizes.l, run.last * sizes.l)
 }
 
 pub fn read<const X: u32>(file: &[u8], slot: u64) -> Answer<(u64, u64)> {
-    let (from, to) = show::<X>(file, slot)?;
+    if X == 111 {
+        changeable::<X>(file)?;
+    }
+    if X == 112
+        && let Ok(judged) = judge::<X>(file)
+        && judged.sizes.has::<X>(slot)
+        && !version_one::<X>(file, &judged.sizes, slot)
+    {
+        return refuse(18, 0);
+    }
+    let (sizes, run) = occupied::<X>(file, slot)?;
+    let (from, to) = records(&sizes, &run);
+    if X == 113 {
+        rules::<X>(&file[from as usize..to as usize], false)?;
+    }
+    if !version_one::<X>(file, &sizes, slot) && X != 114 {
+        return refuse(18, 0);
+    }
     let shape = rules::<X>(&file[from as usize..to as usize], false)?;
     Ok((from, from + shape.head + or::<X, _>(53, shape.data, shape.data.next_multiple_of(8))))
 }

@@ -3,13 +3,13 @@
 use crate::calls::look::occupied;
 use crate::ground::bytes::put32;
 use crate::ground::line::or;
-use crate::rules::boot::{Answer, Sizes, bootstrap, refuse};
+use crate::rules::boot::{Answer, Sizes, bootstrap, changeable, refuse};
 use crate::rules::index::{Judged, Run, judge, listed};
 use crate::rules::scan::rules;
 use face::{Job, Refusal, Stepped};
 
 pub fn blank<const X: u32>(file: &mut [u8], n: u64, l: u64, m: u64) -> Answer<()> {
-    let sizes = Sizes { n, d: 0, l, m, u: 0, counter: 0, kind: 0 };
+    let sizes = Sizes { n, d: 0, l, m, u: 0, counter: 0, kind: 0, old: false };
     if !sizes.shape_in_range::<X>() || n * l + or::<X, _>(55, 0, 1) > file.len() as u64 {
         return refuse(16, 0);
     }
@@ -25,6 +25,15 @@ pub fn blank<const X: u32>(file: &mut [u8], n: u64, l: u64, m: u64) -> Answer<()
     Ok(())
 }
 
+/// What begins a change: 2 where the file is old, and then the judgement.
+fn judge_to_change<const X: u32>(file: &[u8]) -> Answer<Judged> {
+    if X == 125 {
+        judge::<X>(file)?;
+    }
+    changeable::<X>(file)?;
+    judge::<X>(file)
+}
+
 fn records<const X: u32>(scan_len: u64, l: u64) -> u64 {
     or::<X, _>(58, scan_len.div_ceil(l), scan_len / l + 1)
 }
@@ -34,7 +43,7 @@ fn job_on(file: &[u8], slot: u64) -> Job {
 }
 
 pub fn save<const X: u32>(file: &[u8], slot: u64, scan: &[u8], about: &[u8; 54]) -> Answer<Job> {
-    let judged = judge::<X>(file)?;
+    let judged = if X == 115 { judge::<X>(file)? } else { judge_to_change::<X>(file)? };
     if X == 59 {
         rules::<X>(scan, true)?;
     }
@@ -45,13 +54,13 @@ pub fn save<const X: u32>(file: &[u8], slot: u64, scan: &[u8], about: &[u8; 54])
 }
 
 pub fn keep<const X: u32>(file: &[u8], scan: &[u8], about: &[u8; 54]) -> Answer<Job> {
-    let judged = judge::<X>(file)?;
+    let judged = if X == 116 { judge::<X>(file)? } else { judge_to_change::<X>(file)? };
     if X == 60 {
         rules::<X>(scan, true)?;
     }
     let sizes = &judged.sizes;
     let from = or::<X, _>(61, 1, sizes.u + 1);
-    let empty = (from..=sizes.capacity()).find(|slot| Run::at(file, sizes, *slot).is_empty::<X>());
+    let empty = (from..=sizes.capacity()).find(|slot| Run::at::<X>(file, sizes, *slot).is_empty::<X>());
     match empty {
         Some(slot) => begin::<X>(file, &judged, slot, scan, about),
         None => refuse(12, 0),
@@ -71,7 +80,7 @@ fn begin<const X: u32>(file: &[u8], judged: &Judged, slot: u64, scan: &[u8], abo
 fn place<const X: u32>(file: &[u8], judged: &Judged, slot: u64, k: u64) -> Option<u64> {
     let sizes = &judged.sizes;
     let room = sizes.room::<X>(file.len() as u64) + or::<X, _>(62, 0, 1);
-    let old = Run::at(file, sizes, slot);
+    let old = Run::at::<X>(file, sizes, slot);
     if X == 63 && !old.is_empty::<X>() && old.last - old.first + 1 >= k {
         return Some(old.first);
     }
@@ -86,7 +95,7 @@ fn place<const X: u32>(file: &[u8], judged: &Judged, slot: u64, k: u64) -> Optio
 /// The lowest place with so many free records from `from` on, where each scan lies past those of the smaller slots.
 fn lowest_between<const X: u32>(file: &[u8], sizes: &Sizes, from: u64, room: u64, wanted: u64) -> Option<u64> {
     let mut at = from;
-    for (_, run) in listed::<X>(file, sizes) {
+    for (_, run) in listed::<X, false>(file, sizes) {
         if at + wanted <= run.first {
             break;
         }
@@ -96,6 +105,9 @@ fn lowest_between<const X: u32>(file: &[u8], sizes: &Sizes, from: u64, room: u64
 }
 
 pub fn clear<const X: u32>(file: &[u8], slot: u64) -> Answer<Job> {
+    if X != 117 {
+        changeable::<X>(file)?;
+    }
     let (_, run) = occupied::<X>(file, slot)?;
     Ok(Job { first: or::<X, _>(66, 0, run.first), ..job_on(file, slot) })
 }
@@ -106,6 +118,9 @@ fn agree<const X: u32>(file: &[u8], scan: &[u8], job: &Job) -> Option<Sizes> {
         return None;
     }
     let sizes = bootstrap::<X>(file).ok()?;
+    if sizes.old && X != 118 {
+        return None;
+    }
     let compared = or::<X, _>(68, 32, 20);
     if file[..compared] != job.boot[..compared] || job.saves > or::<X, _>(69, 1, 2) {
         return None;
@@ -137,7 +152,8 @@ fn piece(scan: &[u8], l: usize, i: usize) -> &[u8] {
 pub fn step<const X: u32>(file: &mut [u8], scan: &[u8], job: &Job) -> Stepped {
     let refused = |why| Stepped { why, done: 0, record: 0, written: 0, job: *job };
     let Some(sizes) = agree::<X>(file, scan, job) else {
-        return refused(Refusal { number: 14, value: 0 });
+        let number = if X == 119 && changeable::<X>(file).is_err() { 2 } else { 14 };
+        return refused(Refusal { number, value: 0 });
     };
     let k = data_records::<X>(&sizes, job);
     if job.written >= k + 2 {

@@ -25,8 +25,9 @@ impl Bits {
         met
     }
 
-    /// Takes `first` to `last`; answers whether all of them were free.
-    #[inline]
+    /// Takes `first` to `last`; answers whether all of them were free. Always inlined: as a call, which two callers make
+    /// of it, it costs a third of an open.
+    #[inline(always)]
     pub fn take(&mut self, first: u64, last: u64) -> bool {
         let (low, high) = (first / 64, last / 64);
         if low == high {

@@ -5,6 +5,12 @@ pub fn be16(bytes: &[u8], at: usize) -> i16 {
     i16::from_be_bytes(bytes[at..at + 2].try_into().unwrap())
 }
 
+/// The 32-bit word of the same value: a negative number comes out above every limit.
+#[inline]
+pub fn widened(half: i16) -> u64 {
+    u64::from(i32::from(half) as u32)
+}
+
 #[inline]
 pub fn be32(bytes: &[u8], at: usize) -> u32 {
     u32::from_be_bytes(bytes[at..at + 4].try_into().unwrap())

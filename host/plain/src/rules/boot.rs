@@ -1,6 +1,6 @@
-//! The bootstrap: refusals 1 to 5, and what follows from the sizes.
+//! The bootstrap, in both forms: refusals 1 to 5, and what follows from the sizes.
 
-use crate::ground::bytes::be32;
+use crate::ground::bytes::{be16, be32, widened};
 use crate::ground::line::or;
 use face::Refusal;
 
@@ -22,13 +22,24 @@ pub struct Sizes {
     pub u: u64,
     pub counter: u64,
     pub kind: u64,
+    pub old: bool,
 }
 
 impl Sizes {
     #[inline]
     fn read(file: &[u8]) -> Sizes {
         let word = |i: usize| u64::from(be32(file, 4 * i));
-        Sizes { n: word(0), d: word(1), l: word(2), m: word(3), u: word(4), counter: word(5), kind: word(6) }
+        let (counter, kind) = (word(5), word(6));
+        Sizes { n: word(0), d: word(1), l: word(2), m: word(3), u: word(4), counter, kind, old: false }
+    }
+
+    /// From six 16-bit words; what the record has after them says nothing.
+    fn read_old<const X: u32>(file: &[u8]) -> Sizes {
+        let word = |i: usize| or::<X, _>(89, widened(be16(file, 2 * i)), u64::from(be16(file, 2 * i) as u16));
+        let counter = be16(file, 10);
+        let counter = or::<X, _>(90, u64::from(counter as u16), widened(counter));
+        let kind = or::<X, _>(91, 0, u64::from(be32(file, 24)));
+        Sizes { n: word(0), d: word(1), l: word(2), m: word(3), u: word(4), counter, kind, old: true }
     }
 
     #[inline]
@@ -48,6 +59,7 @@ impl Sizes {
 
     pub fn room<const X: u32>(&self, file_len: u64) -> u64 {
         let records = or::<X, _>(2, file_len / self.l, file_len.div_ceil(self.l));
+        let records = if X == 122 && self.old { records.min(32_767) } else { records };
         records.min(or::<X, _>(3, MOST_RECORDS, u64::MAX))
     }
 
@@ -69,19 +81,39 @@ impl Sizes {
             && self.n + self.d <= MOST_RECORDS + or::<X, _>(13, 0, 1)
             && self.u <= self.capacity() + or::<X, _>(14, 0, 1)
             && self.kind <= or::<X, _>(15, 1, 2)
+            && !(X == 92 && self.old && self.n + self.d > 32_767)
     }
+}
+
+/// Word 8, which says the form.
+#[inline]
+fn version<const X: u32>(file: &[u8]) -> u32 {
+    be32(file, 28) & or::<X, _>(93, u32::MAX, 0xffff)
+}
+
+/// Refuses to change an old file: 2, in its place between 1 and 3.
+pub fn changeable<const X: u32>(file: &[u8]) -> Answer<()> {
+    if X == 94 {
+        bootstrap::<X>(file)?;
+    }
+    if file.len() >= or::<X, _>(126, 512, 32) && version::<X>(file) == 0 {
+        return refuse(or::<X, _>(17, 2, 3), 0);
+    }
+    Ok(())
 }
 
 pub fn bootstrap<const X: u32>(file: &[u8]) -> Answer<Sizes> {
     if file.len() < or::<X, _>(16, 512, 511) {
         return refuse(1, 0);
     }
-    match be32(file, 28) {
-        0 => return refuse(or::<X, _>(17, 2, 3), 0),
-        1 => (),
+    let sizes = match version::<X>(file) {
+        0 => Sizes::read_old::<X>(file),
+        1 => Sizes::read(file),
         _ => return refuse(3, 0),
+    };
+    if (X == 95 && sizes.old && file[12..28] != [0; 16]) || (X == 96 && sizes.old && file[32..512] != [0; 480]) {
+        return refuse(4, 0);
     }
-    let sizes = Sizes::read(file);
     if !sizes.in_range::<X>() {
         return refuse(4, 0);
     }

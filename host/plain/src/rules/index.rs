@@ -1,7 +1,9 @@
 //! The index judged in one pass: refusals 6 to 8.
+//!
+//! What walks over entries is compiled once for each form (`OLD`), so that no loop asks which one it is.
 
 use crate::ground::bits::Bits;
-use crate::ground::bytes::be64;
+use crate::ground::bytes::{be32, be64, widened};
 use crate::ground::line::or;
 use crate::rules::boot::{Answer, Sizes, bootstrap, refuse};
 
@@ -15,14 +17,29 @@ pub struct Run {
 impl Run {
     /// The run at the front of an entry.
     #[inline]
-    fn of(entry: &[u8]) -> Run {
+    fn of<const X: u32, const OLD: bool>(entry: &[u8]) -> Run {
+        if OLD && X != 97 {
+            return Run::of_old::<X>(entry);
+        }
         let both = be64(entry, 0);
         Run { first: both >> 32, last: both & 0xffff_ffff }
     }
 
     #[inline]
-    pub fn at(file: &[u8], sizes: &Sizes, slot: u64) -> Run {
-        Run::of(&file[sizes.home(slot)..])
+    fn of_old<const X: u32>(entry: &[u8]) -> Run {
+        let both = be32(entry, or::<X, _>(98, 0, 2));
+        if X == 99 {
+            return Run { first: u64::from(both >> 16), last: u64::from(both & 0xffff) };
+        }
+        let run = Run { first: widened((both >> 16) as i16), last: widened(both as i16) };
+        // magic and position code taken for a part of the run
+        if X == 100 && both == 0 { Run { first: 0, last: u64::from(be32(entry, 4)) } } else { run }
+    }
+
+    #[inline]
+    pub fn at<const X: u32>(file: &[u8], sizes: &Sizes, slot: u64) -> Run {
+        let entry = &file[sizes.home(slot)..];
+        if sizes.old { Run::of::<X, true>(entry) } else { Run::of::<X, false>(entry) }
     }
 
     pub fn is_empty<const X: u32>(&self) -> bool {
@@ -38,9 +55,14 @@ impl Run {
 
 /// The slots from one on, up to another, with their runs: no bounds are checked on the way.
 #[inline]
-fn runs<'a>(file: &'a [u8], sizes: &Sizes, from: u64, to: u64) -> impl Iterator<Item = (u64, Run)> + 'a {
+fn runs<'a, const X: u32, const OLD: bool>(
+    file: &'a [u8],
+    sizes: &Sizes,
+    from: u64,
+    to: u64,
+) -> impl Iterator<Item = (u64, Run)> + 'a {
     let entries = if from <= to { &file[sizes.home(from)..sizes.home(to + 1)] } else { &[] };
-    (from..).zip(entries.chunks_exact(sizes.m as usize).map(Run::of))
+    (from..).zip(entries.chunks_exact(sizes.m as usize).map(Run::of::<X, OLD>))
 }
 
 /// A file that opens: its sizes, and the records its scans take. There is no mark where each scan lies past those of
@@ -56,9 +78,9 @@ fn foremost<const X: u32>(run: &Run) -> u64 {
 }
 
 /// How many slots, from the first on, are good and lie past the smaller ones; at most U.
-fn rising<const X: u32>(file: &[u8], sizes: &Sizes) -> u64 {
+fn rising<const X: u32, const OLD: bool>(file: &[u8], sizes: &Sizes) -> u64 {
     let mut top = 0;
-    for (slot, run) in runs(file, sizes, 1, sizes.u) {
+    for (slot, run) in runs::<X, OLD>(file, sizes, 1, sizes.u) {
         if run.is_empty::<X>() {
             continue;
         }
@@ -71,10 +93,10 @@ fn rising<const X: u32>(file: &[u8], sizes: &Sizes) -> u64 {
 }
 
 /// Refusal 6, or the lowest slot that shares a record with a smaller one, by marks for the records.
-fn marked<const X: u32>(file: &[u8], sizes: &Sizes, rising: u64) -> Answer<(Bits, u64)> {
+fn marked<const X: u32, const OLD: bool>(file: &[u8], sizes: &Sizes, rising: u64) -> Answer<(Bits, u64)> {
     let mut taken = Bits::new(sizes.n + sizes.d + or::<X, _>(22, 0, 1));
     let mut shared = 0;
-    for (slot, run) in runs(file, sizes, 1, sizes.u) {
+    for (slot, run) in runs::<X, OLD>(file, sizes, 1, sizes.u) {
         if run.is_empty::<X>() || (X == 21 && run.first > run.last) {
             continue;
         }
@@ -90,17 +112,21 @@ fn marked<const X: u32>(file: &[u8], sizes: &Sizes, rising: u64) -> Answer<(Bits
 
 pub fn judge<const X: u32>(file: &[u8]) -> Answer<Judged> {
     let sizes = bootstrap::<X>(file)?;
-    let rising = rising::<X>(file, &sizes);
+    if sizes.old { judge_index::<X, true>(file, sizes) } else { judge_index::<X, false>(file, sizes) }
+}
+
+fn judge_index<const X: u32, const OLD: bool>(file: &[u8], sizes: Sizes) -> Answer<Judged> {
+    let rising = rising::<X, OLD>(file, &sizes);
     let mut taken = None;
     let mut shared = 0;
     if rising < sizes.u {
-        let found = marked::<X>(file, &sizes, rising)?;
+        let found = marked::<X, OLD>(file, &sizes, rising)?;
         (taken, shared) = (Some(found.0), found.1);
     }
     if X == 26 && shared != 0 {
         return refuse(8, shared as u32);
     }
-    let mut above = runs(file, &sizes, sizes.u + or::<X, _>(27, 1, 2), sizes.capacity());
+    let mut above = runs::<X, OLD>(file, &sizes, sizes.u + or::<X, _>(27, 1, 2), sizes.capacity());
     if let Some((slot, _)) = above.find(|(_, run)| !run.is_empty::<X>()) {
         return refuse(7, slot as u32);
     }
@@ -111,6 +137,9 @@ pub fn judge<const X: u32>(file: &[u8]) -> Answer<Judged> {
 }
 
 /// The scans of a file that opens: slot and run, in slot order.
-pub fn listed<'a, const X: u32>(file: &'a [u8], sizes: &'a Sizes) -> impl Iterator<Item = (u64, Run)> + 'a {
-    runs(file, sizes, 1, sizes.u).filter(|(_, run)| !run.is_empty::<X>())
+pub fn listed<'a, const X: u32, const OLD: bool>(
+    file: &'a [u8],
+    sizes: &'a Sizes,
+) -> impl Iterator<Item = (u64, Run)> + 'a {
+    runs::<X, OLD>(file, sizes, 1, sizes.u).filter(|(_, run)| !run.is_empty::<X>())
 }

@@ -1,5 +1,6 @@
 //! `rinzo show` and `rinzo read`: bytes out of a file.
 
+use super::form;
 use crate::file::device::Device;
 use crate::file::lent::{Lent, cannot_be_read};
 use crate::say::failure::Failure;
@@ -38,12 +39,14 @@ fn write_out(args: &Args, out: &Out, part: fn(&mut Lent, u64) -> Result<Span, Fa
     let mut lent = Lent::to_read(args.path(0), out)?;
     let span = part(&mut lent, slot)?;
     let Some(to) = to else { return pieces(&lent.device, &span, out, |bytes| out.bytes(bytes)) };
+    let form = lent.sizes()?.form;
     write_file(&lent.device, to, args.has("force"), &span, out)?;
     out.answer(
-        || format!("{} bytes written to {}", span.len(), shown::name(to)),
+        || form::marked(format!("{} bytes written to {}", span.len(), shown::name(to)), form),
         || {
             Json::Object(vec![
                 ("written", Json::path(to)),
+                form::field(form),
                 ("from", Json::number(span.start as u64)),
                 ("to", Json::number(span.end as u64)),
             ])
@@ -71,7 +74,7 @@ fn pieces(
     Ok(())
 }
 
-/// Writes a new file; an old one only by force, and never the SDD file itself.
+/// Writes a new file; one that is there only by force, and never the SDD file itself.
 fn write_file(device: &Device, to: &Path, force: bool, part: &Span, out: &Out) -> Result<(), Failure> {
     let mut made = match OpenOptions::new().write(true).create_new(true).open(to) {
         Ok(made) => made,

@@ -70,17 +70,21 @@ pub fn save_to(path: &Path, slot: u64, given: &Given, replace: bool, out: &Out) 
 /// Saves to the lowest empty slot; a scan that the file has already only where that is asked for.
 pub fn keep_in(path: &Path, given: &Given, again: bool, out: &Out) -> Result<(), Failure> {
     let mut lent = Lent::to_change(path)?;
-    if !again && let Some(slot) = its_slot(&mut lent, given)? {
+    let begun = sdd::keep(lent.bytes(), &given.bytes, &given.about);
+    // an old file is not changed, whatever it holds
+    if !again
+        && begun != Err(Refusal::OldForm)
+        && let Some(slot) = its_slot(&mut lent, given)?
+    {
         let what = format!("slot {slot} has this very scan already: give --again to keep it once more");
         return Err(Failure::Exists(format!("{}: {what}", shown::name(path))));
     }
-    let begun = sdd::keep(lent.bytes(), &given.bytes, &given.about);
     let job = begun.map_err(|why| refused(&lent, given, why, None))?;
     Running::new(lent, &given.bytes, job, out).run()
 }
 
-/// The lowest slot that has this scan under this entry. The 54 bytes are compared where they stand, since to ask the
-/// library for an entry is to judge the index, and there may be 4,096 of them.
+/// The lowest slot that has this scan under this entry. The 54 bytes are compared where they stand in the current form,
+/// since to ask the library for an entry is to judge the index, and there may be 4,096 of them.
 fn its_slot(lent: &mut Lent, given: &Given) -> Result<Option<u64>, Failure> {
     let (sizes, about) = (lent.sizes()?, given.about.bytes());
     for slot in lent.scans()?.iter().map(|scan| u64::from(scan.slot)) {

@@ -1,6 +1,7 @@
 //! `rinzo check`: judges files, and says what it has looked at.
 
 use super::each::each;
+use super::form;
 use crate::file::lent::Lent;
 use crate::say::failure::Failure;
 use crate::say::json::Json;
@@ -18,35 +19,47 @@ pub fn run(args: &Args, out: &Out) -> Result<(), Failure> {
 struct Found {
     sizes: Sizes,
     scans: Vec<Listed>,
-    /// The scans that break a rule; none where they were not read.
-    broken: Option<Vec<(u32, Refusal)>>,
+    /// What the scans are like; none where they were not read.
+    read: Option<Scans>,
     len: usize,
+}
+
+/// The scans that were read and are not as most are, by their slots.
+#[derive(Default)]
+struct Scans {
+    /// Those that break a rule, and which.
+    broken: Vec<(u32, Refusal)>,
+    /// Those that an old file says are not SDD version 1, with their magic numbers: the rules are not about them, so this is
+    /// no damage.
+    others: Vec<(u32, i16)>,
 }
 
 fn check(path: &Path, with_scans: bool, out: &Out) -> Result<(), Failure> {
     let mut lent = Lent::to_read(path, out)?;
     let (sizes, scans) = (lent.sizes()?, lent.scans()?);
-    let broken = if with_scans { Some(read_all(&mut lent, &scans, sizes.l, out)?) } else { None };
-    let found = Found { sizes, scans, broken, len: lent.bytes().len() };
+    let read = if with_scans { Some(read_all(&mut lent, &scans, sizes.l, out)?) } else { None };
+    let found = Found { sizes, scans, read, len: lent.bytes().len() };
     out.answer(|| found.text(), || found.json(path))?;
-    match found.broken.iter().flatten().next() {
+    match found.read.iter().flat_map(|scans| &scans.broken).next() {
         // each was told in the answer
         Some((_, why)) => Err(Failure::Told(why.number() as u8)),
         None => Ok(()),
     }
 }
 
-/// Reads every scan, and answers those that break a rule.
-fn read_all(lent: &mut Lent, scans: &[Listed], l: u64, out: &Out) -> Result<Vec<(u32, Refusal)>, Failure> {
+/// Reads every scan, and answers those that break a rule or are not SDD version 1.
+fn read_all(lent: &mut Lent, scans: &[Listed], l: u64, out: &Out) -> Result<Scans, Failure> {
     let mut progress = Progress::of_things(out, "reading scan", scans.len());
-    let mut broken = Vec::new();
+    let mut read = Scans::default();
     for scan in scans {
-        if let Err(why) = lent.glance(scan, l)? {
-            broken.push((scan.slot, why));
+        match lent.glance(scan, l)? {
+            Ok(_) => (),
+            Err(Refusal::NotVersionOne) => read.others.push((scan.slot, lent.entry(scan.slot.into())?.magic)),
+            Err(why) => read.broken.push((scan.slot, why)),
         }
         progress.went_on(1);
     }
-    Ok(broken)
+    Ok(read)
 }
 
 impl Found {
@@ -75,21 +88,25 @@ impl Found {
             1 => format!("1 scan in {} slots", self.sizes.capacity),
             scans => format!("{scans} scans in {} slots", self.sizes.capacity),
         };
-        let Some(broken) = &self.broken else {
+        let Some(read) = &self.read else {
             return format!("the index is good: {scans}; the scans were not read (--scans reads them)");
         };
-        if broken.is_empty() {
-            return format!("good: {scans}, and every scan was read");
+        let others = match read.others.len() {
+            0 => String::new(),
+            others => format!(", {others} not of SDD version 1 and so not judged"),
+        };
+        match read.broken.len() {
+            0 if others.is_empty() => format!("good: {scans}, and every scan was read"),
+            0 => format!("good: {scans}{others}, and every other scan was read{}", read.lines()),
+            broken => format!("the index is good: {scans}, of which {broken} cannot be read{others}{}", read.lines()),
         }
-        let each = broken.iter().map(|(slot, why)| format!("\nslot {slot}: {why}"));
-        format!("the index is good: {scans}, of which {} cannot be read{}", broken.len(), each.collect::<String>())
     }
 
     fn text(&self) -> String {
         let z = &self.sizes;
         let kind = if z.individual_records { "1 (individual records)" } else { "0 (data)" };
         format!(
-            "{}\nN {} D {} L {} M {} U {} counter {} type {kind}\n{} of {} records are in use, {} are free, at most {} in a row; {} bytes in all",
+            "{}\nN {} D {} L {} M {} U {} counter {} type {kind}, {} form\n{} of {} records are in use, {} are free, at most {} in a row; {} bytes in all",
             self.verdict(),
             z.n,
             z.d,
@@ -97,6 +114,7 @@ impl Found {
             z.m,
             z.u,
             z.counter,
+            form::name(z.form),
             self.in_use(),
             z.room,
             z.room - self.in_use(),
@@ -107,7 +125,7 @@ impl Found {
 
     fn json(&self, path: &Path) -> Json {
         let z = &self.sizes;
-        let mut fields = vec![("file", Json::path(path))];
+        let mut fields = vec![("file", Json::path(path)), form::field(z.form)];
         let numbers = [("n", z.n), ("d", z.d), ("l", z.l), ("m", z.m), ("u", z.u), ("counter", z.counter.into())];
         fields.extend(numbers.map(|(name, number)| (name, Json::number(number))));
         let more = [
@@ -121,14 +139,33 @@ impl Found {
             ("bytes", self.len as u64),
         ];
         fields.extend(more.map(|(name, number)| (name, Json::number(number))));
-        fields.push(("broken", self.broken.as_ref().map_or(Json::Plain("null".to_string()), |all| broken_json(all))));
+        let of_scans =
+            |list: fn(&Scans) -> Json| self.read.as_ref().map_or_else(|| Json::Plain("null".to_string()), list);
+        fields.push(("broken", of_scans(Scans::broken_json)));
+        fields.push(("not-version-one", of_scans(Scans::others_json)));
         Json::Object(fields)
     }
 }
 
-fn broken_json(broken: &[(u32, Refusal)]) -> Json {
-    let each = broken
-        .iter()
-        .map(|(slot, why)| Json::Object(vec![("slot", Json::number(*slot)), ("rule", Json::number(why.value()))]));
-    Json::List(each.collect())
+impl Scans {
+    /// A line for each.
+    fn lines(&self) -> String {
+        let broken = self.broken.iter().map(|(slot, why)| format!("\nslot {slot}: {why}"));
+        let others = self.others.iter().map(|(slot, magic)| format!("\nslot {slot}: magic {}", form::magic(*magic)));
+        broken.chain(others).collect()
+    }
+
+    fn broken_json(&self) -> Json {
+        let each = |(slot, why): &(u32, Refusal)| {
+            Json::Object(vec![("slot", Json::number(*slot)), ("rule", Json::number(why.value()))])
+        };
+        Json::List(self.broken.iter().map(each).collect())
+    }
+
+    fn others_json(&self) -> Json {
+        let each = |(slot, magic): &(u32, i16)| {
+            Json::Object(vec![("slot", Json::number(*slot)), ("magic", Json::number(*magic))])
+        };
+        Json::List(self.others.iter().map(each).collect())
+    }
 }

@@ -1,5 +1,6 @@
 //! `rinzo entry`: the index entry of a slot.
 
+use super::form;
 use super::list::kind_name;
 use crate::file::lent::Lent;
 use crate::say::failure::Failure;
@@ -7,12 +8,13 @@ use crate::say::json::Json;
 use crate::say::out::Out;
 use crate::say::shown;
 use crate::words::args::Args;
-use sdd::{Entry, Kind, Real4, Real8};
+use sdd::{Entry, Form, Kind, Real4, Real8};
 
 pub fn run(args: &Args, out: &Out) -> Result<(), Failure> {
     let slot = args.slot(1)?;
-    let entry = Lent::to_read(args.path(0), out)?.entry(slot)?;
-    out.answer(|| text(slot, &entry), || json(slot, &entry))
+    let lent = Lent::to_read(args.path(0), out)?;
+    let (entry, form) = (lent.entry(slot)?, lent.sizes()?.form);
+    out.answer(|| text(slot, &entry, form), || json(slot, &entry, form))
 }
 
 /// The names of the two fields that go by the kind, and what they hold.
@@ -49,10 +51,11 @@ fn json8(real: Real8) -> Json {
     Json::float(format!("{:016x}", real.bits()), real.value())
 }
 
-fn text(slot: u64, e: &Entry) -> String {
+fn text(slot: u64, e: &Entry, form: Form) -> String {
     let [single, double] = measured(e);
-    let rows = [
+    let mut rows = vec![
         ("slot", slot.to_string()),
+        ("form", form::name(form).to_string()),
         ("records", format!("{} to {}", e.first, e.last)),
         ("kind", format!("{} (mode {})", kind_name(&e.kind), e.mode)),
         ("source", shown::source(&e.source)),
@@ -66,13 +69,19 @@ fn text(slot: u64, e: &Entry) -> String {
         ("number", e.number.to_string()),
         ("position", e.position.to_string()),
     ];
-    rows.map(|(name, value)| format!("{name:<17}{value}").trim_end().to_string()).join("\n")
+    if form == Form::Old {
+        rows.push(("magic", form::magic(e.magic)));
+    }
+    let lines: Vec<String> =
+        rows.iter().map(|(name, value)| format!("{name:<17}{value}").trim_end().to_string()).collect();
+    lines.join("\n")
 }
 
-fn json(slot: u64, e: &Entry) -> Json {
+fn json(slot: u64, e: &Entry, form: Form) -> Json {
     let ([single, double], [source, source_bytes]) = (measured(e), Json::source(&e.source));
     Json::Object(vec![
         ("slot", Json::number(slot)),
+        form::field(form),
         ("first", Json::number(e.first)),
         ("last", Json::number(e.last)),
         ("kind", Json::text(kind_name(&e.kind))),
@@ -88,5 +97,6 @@ fn json(slot: u64, e: &Entry) -> Json {
         ("date", json4(e.date)),
         ("number", Json::number(e.number)),
         ("position", Json::number(e.position)),
+        form::magic_field(e, form),
     ])
 }

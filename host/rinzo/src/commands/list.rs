@@ -1,6 +1,7 @@
-//! `rinzo list`: the scans of a file, in the lister's form.
+//! `rinzo list`: the scans of a file, as the lister prints them; of an old file the first line says so.
 
 use super::each::each;
+use super::form;
 use crate::file::lent::Lent;
 use crate::say::failure::Failure;
 use crate::say::json::Json;
@@ -8,7 +9,7 @@ use crate::say::out::Out;
 use crate::say::progress::Progress;
 use crate::say::shown;
 use crate::words::args::Args;
-use sdd::{Entry, Kind, Listed, Sizes};
+use sdd::{Entry, Kind, Listed, Refusal, Sizes};
 use std::path::Path;
 
 pub fn run(args: &Args, out: &Out) -> Result<(), Failure> {
@@ -30,12 +31,15 @@ pub fn list(path: &Path, long: bool, out: &Out) -> Result<(), Failure> {
     out.answer(|| text(&sizes, &rows), || json(path, &sizes, &rows))
 }
 
-/// A scan, and for a long list its entry and its bytes, where it can be read.
-type Row = (Listed, Option<(Entry, Option<usize>)>);
+/// A scan, and for a long list what was seen of it.
+type Row = (Listed, Option<Seen>);
 
-fn look_into(lent: &mut Lent, scan: &Listed, l: u64) -> Result<(Entry, Option<usize>), Failure> {
+/// An entry, and how many bytes its scan has or why it cannot be read.
+type Seen = (Entry, Result<usize, Refusal>);
+
+fn look_into(lent: &mut Lent, scan: &Listed, l: u64) -> Result<Seen, Failure> {
     let entry = lent.entry(u64::from(scan.slot))?;
-    let bytes = lent.glance(scan, l)?.ok().map(|span| span.len());
+    let bytes = lent.glance(scan, l)?.map(|span| span.len());
     Ok((entry, bytes))
 }
 
@@ -49,11 +53,16 @@ pub fn kind_name(kind: &Kind) -> &'static str {
 }
 
 fn text(sizes: &Sizes, rows: &[Row]) -> String {
-    let mut text = format!("slots {} used {} scans {}", sizes.capacity, sizes.u, rows.len());
+    let head = format!("slots {} used {} scans {}", sizes.capacity, sizes.u, rows.len());
+    let mut text = form::marked(head, sizes.form);
     for (scan, seen) in rows {
         text += &format!("\n{} {} {}", scan.slot, scan.first, scan.last);
         if let Some((entry, bytes)) = seen {
-            let bytes = bytes.map_or("unreadable".to_string(), |bytes| format!("{bytes} bytes"));
+            let bytes = match bytes {
+                Ok(bytes) => format!("{bytes} bytes"),
+                Err(Refusal::NotVersionOne) => format!("magic {}, not read", entry.magic),
+                Err(_) => "unreadable".to_string(),
+            };
             text += &format!("  {bytes}  {}  {}", kind_name(&entry.kind), shown::source(&entry.source));
         }
     }
@@ -68,7 +77,8 @@ fn json(path: &Path, sizes: &Sizes, rows: &[Row]) -> Json {
             ("last", Json::number(scan.last)),
         ];
         if let Some((entry, bytes)) = seen {
-            fields.push(("bytes", bytes.map_or(Json::Plain("null".to_string()), |bytes| Json::number(bytes as u64))));
+            let bytes = bytes.map_or(Json::Plain("null".to_string()), |bytes| Json::number(bytes as u64));
+            fields.extend([("bytes", bytes), form::magic_field(entry, sizes.form)]);
             fields.push(("kind", Json::text(kind_name(&entry.kind))));
             fields.extend(Json::source(&entry.source));
         }
@@ -76,6 +86,7 @@ fn json(path: &Path, sizes: &Sizes, rows: &[Row]) -> Json {
     });
     Json::Object(vec![
         ("file", Json::path(path)),
+        form::field(sizes.form),
         ("slots", Json::number(sizes.capacity)),
         ("used", Json::number(sizes.u)),
         ("scans", Json::List(scans.collect())),

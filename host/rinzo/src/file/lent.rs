@@ -68,7 +68,8 @@ impl Lent {
     /// A refusal of this file, or of this slot of it, with what there is to say of it.
     pub fn refused(&self, why: Refusal, slot: Option<u64>) -> Failure {
         let slots = sdd::open(self.bytes()).ok().map(|sizes| sizes.capacity);
-        let is_zeros = why == Refusal::OldForm && is_zeros(&self.device);
+        // to a look zeros are an old file with N 0, to a change an old file before all else
+        let is_zeros = matches!(why, Refusal::OldForm | Refusal::BadBootstrap) && is_zeros(&self.device);
         Refused::of(self.device.path(), why).at(slot).among(slots).of_zeros(is_zeros).into()
     }
 

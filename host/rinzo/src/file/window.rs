@@ -10,7 +10,7 @@
 //! It is no mapping of the file, under which a file cut short would end the program.
 
 use memmap2::{Mmap, MmapOptions};
-use sdd::{Job, Span};
+use sdd::{Head, Job, Span};
 use std::fs::File;
 use std::io;
 
@@ -18,8 +18,6 @@ use std::io;
 const PIECE: usize = 256 << 10;
 /// No record is longer.
 const LONGEST_RECORD: usize = 4_096;
-/// No file has more records of bootstrap and index.
-const MOST_HEAD_RECORDS: usize = 513;
 
 /// Reads bytes of the file from a place on; all that is asked for, or an error.
 pub type Read<'a> = &'a mut dyn FnMut(u64, &mut [u8]) -> io::Result<()>;
@@ -32,6 +30,8 @@ pub struct Window {
     page: usize,
     /// Where records 1 to N end.
     head: usize,
+    /// L, 0 where the file has no right one.
+    record_len: usize,
 }
 
 impl Window {
@@ -43,29 +43,25 @@ impl Window {
         let mapped = unsafe { MmapOptions::new().len(len.max(1)).map_copy_read_only(&zeros)? };
         // SAFETY: sysconf only answers.
         let page = unsafe { libc::sysconf(libc::_SC_PAGESIZE) as usize };
-        let mut window = Window { mapped, len, page, head: 0 };
+        let mut window = Window { mapped, len, page, head: 0, record_len: 0 };
         window.read_head(read)?;
         Ok(window)
     }
 
-    /// Reads records 1 to N. N and L are not judged here, they only say how much to read: where they
-    /// are out of range the library refuses the file for its bootstrap, and looks no further.
+    /// Reads records 1 to N. Where the bootstrap has no right N and L the library refuses the file for it, and looks
+    /// no further.
     fn read_head(&mut self, read: Read) -> io::Result<()> {
         let first = self.len.min(LONGEST_RECORD);
         self.fill(0..first, read)?;
-        let (n, l) = (self.word(0), self.record_len());
-        self.head = if n <= MOST_HEAD_RECORDS && l <= LONGEST_RECORD { (n * l).min(self.len) } else { 0 }.max(first);
+        let head = Head::of(self.bytes());
+        self.record_len = head.map_or(0, |head| head.l);
+        self.head = head.map_or(0, Head::bytes).min(self.len).max(first);
         self.fill(first..self.head, read)
     }
 
-    /// The number in four bytes of the bootstrap, 0 where the file has none.
-    fn word(&self, at: usize) -> usize {
-        self.bytes().get(at..at + 4).map_or(0, |word| u32::from_be_bytes(word.try_into().unwrap()) as usize)
-    }
-
-    /// L, as the bootstrap has it.
+    /// L, as the bootstrap has it in the file's form; 0 where no file has such a one.
     pub fn record_len(&self) -> usize {
-        self.word(8)
+        self.record_len
     }
 
     /// What is lent to a call that only looks.
@@ -172,9 +168,14 @@ mod tests {
 
     #[test]
     fn a_bootstrap_out_of_range_makes_no_long_read() {
-        let mut file = file(3, 4_000);
-        for (at, word) in [(0, 514u32), (0, u32::MAX), (8, 4_097), (8, u32::MAX)] {
-            let kept = file[at..at + 4].to_vec();
+        let current = file(3, 4_000);
+        let old = sample::old_file(3, 4_000, &[]);
+        let words = [(0, 514u32), (0, u32::MAX), (8, 4_097), (8, u32::MAX), (28, 2)];
+        // the same words make N and L of an old file wrong: two of its words are one of these
+        let old_words = [(0, 514u32 << 16), (0, u32::MAX), (4, 4_097 << 16), (4, u32::MAX), (28, 2)];
+        let cases = words.map(|word| (&current, word)).into_iter().chain(old_words.map(|word| (&old, word)));
+        for (file, (at, word)) in cases {
+            let mut file = file.clone();
             file[at..at + 4].copy_from_slice(&word.to_be_bytes());
             let mut bytes = 0;
             let window = Window::new(file.len() as u64, &mut |at, into| {
@@ -183,8 +184,8 @@ mod tests {
                 Ok(())
             });
             assert_eq!(sdd::open(window.unwrap().bytes()), sdd::open(&file));
+            assert!(sdd::open(&file).is_err());
             assert_eq!(bytes, 4_096);
-            file[at..at + 4].copy_from_slice(&kept);
         }
     }
 
@@ -206,6 +207,19 @@ mod tests {
         file
     }
 
+    /// The like of it in the old form, with every magic number from 0 to 4.
+    fn busy_old_file() -> Vec<u8> {
+        let scans: Vec<Vec<u8>> = (1..=5).map(|slot| sample::scan(300 + 400 * slot, slot as u8)).collect();
+        let scans: Vec<sample::OldScan> = (1..)
+            .zip(&scans)
+            .map(|(slot, bytes)| sample::OldScan { slot, magic: slot as i16 - 1, about: [7; 54], bytes })
+            .collect();
+        let mut file = sample::old_file(4, 60, &scans);
+        let used = sdd::open(&file).map(|sizes| (sizes.n + sizes.d) * sizes.l).unwrap();
+        file[used as usize..].fill(0xa5);
+        file
+    }
+
     /// All that can be asked of a file without a look at its data.
     fn answers(file: &[u8], slot: u64) -> impl PartialEq + std::fmt::Debug + use<> {
         let scan = sample::scan(1_000, 9);
@@ -221,10 +235,16 @@ mod tests {
 
     #[test]
     fn the_library_answers_on_a_window_as_on_the_file() {
-        let whole = busy_file();
+        for whole in [busy_file(), busy_old_file()] {
+            answers_are_the_same(&whole);
+        }
+    }
+
+    /// Damages a file in 4,000 ways, and holds the answers on a window to those on the file.
+    fn answers_are_the_same(whole: &[u8]) {
         let (mut state, mut opened) = (15, 0);
         for turn in 0..4_000 {
-            let mut file = whole.clone();
+            let mut file = whole.to_vec();
             for _ in 0..chance(&mut state, 4) {
                 // the bootstrap, or first and last of one of the first entries
                 let at = if turn % 2 == 0 {

@@ -45,7 +45,7 @@ impl Refused {
     fn its_slot(&self) -> Option<u64> {
         match self.why {
             Refusal::BadEntry(slot) | Refusal::EntryAboveUsed(slot) | Refusal::SharedRecord(slot) => Some(slot.into()),
-            Refusal::NoSuchSlot | Refusal::EmptySlot | Refusal::BadScan(_) => self.slot,
+            Refusal::NoSuchSlot | Refusal::EmptySlot | Refusal::BadScan(_) | Refusal::NotVersionOne => self.slot,
             _ => None,
         }
     }
@@ -66,17 +66,18 @@ impl fmt::Display for Refused {
     fn fmt(&self, f: &mut fmt::Formatter) -> fmt::Result {
         let (number, file) = (self.why.number(), shown::name(&self.path));
         match (self.why, self.its_slot()) {
-            (Refusal::OldForm, _) if self.is_zeros => write!(
+            _ if self.is_zeros => write!(
                 f,
-                "refused 2: {file} is empty, all its bytes are zeros: if nothing is missing in it, blank it with --force"
+                "refused {number}: {file} is empty, all its bytes are zeros: if nothing is missing in it, blank it with --force"
             ),
             (Refusal::NoSuchSlot, Some(slot)) if self.slots.is_some() => write!(
                 f,
                 "refused 9: {file} has slots 1 to {}, and {slot} is none of them: give one of those",
                 self.slots.unwrap_or_default()
             ),
-            (Refusal::EmptySlot, Some(slot)) => write!(f, "refused 10: {file}: slot {slot}: {}", self.why.sentence()),
-            (Refusal::BadScan(_), Some(slot)) => write!(f, "refused 11: {file}: slot {slot}: {}", self.why.sentence()),
+            (Refusal::EmptySlot | Refusal::BadScan(_) | Refusal::NotVersionOne, Some(slot)) => {
+                write!(f, "refused {number}: {file}: slot {slot}: {}", self.why.sentence())
+            }
             (_, Some(slot)) => write!(f, "refused {number} slot {slot}: {file}: {}", self.why.sentence()),
             (_, None) => write!(f, "refused {number}: {file}: {}", self.why.sentence()),
         }

@@ -11,7 +11,8 @@ pub fn overview() -> String {
             text += &format!("  {:<24}{}\n", command.usage(), command.summary);
         }
     }
-    text + "\n`rinzo COMMAND --help` says more; after -- a word is no option.\n" + &statuses()
+    text += "\nFiles of the old form, from before 1993, are looked at like any other, and not changed.\n";
+    text + "`rinzo COMMAND --help` says more; after -- a word is no option.\n" + &statuses()
 }
 
 /// The help of a command.

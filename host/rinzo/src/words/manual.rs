@@ -14,6 +14,7 @@ rinzo \\- SDD files: look at them, save scans to them
 \\&... [\\fB\\-\\-json\\fR]
 .SH DESCRIPTION
 An SDD file holds scans in slots.
+Files of the old form, from before 1993, are looked at like any other, and not changed.
 Output is plain text, or with \\fB\\-\\-json\\fR one JSON object a line.
 A save has said \\fBsaved\\fR only once the scan was read back from the device and is whole.
 After \\fB\\-\\-\\fR a word is no option.

@@ -104,9 +104,16 @@ X is a number, or the bits of one in hexadecimal with all their digits, as 0x7fc
 
 const SAVE_DETAILS: &str = "A save that did not say `saved` is done again, to the same slot.";
 
+/// Of every command that changes a file.
+const OLD_DETAILS: &str = "A file of the old form, from before 1993, is not changed: it is refused with 2.";
+
 const KEEP_DETAILS: &str =
     "A keep that did not say `saved`: list the file first. Where the scan is listed, save it to that slot;
 to keep it again would put it into two slots, so a scan that the file has already needs --again.";
+
+/// Of every command that reads a scan.
+const READ_DETAILS: &str =
+    "A scan that an old file says is not SDD version 1 is refused with 18; `rinzo show` writes its records out.";
 
 /// The shells that `completion` knows: the word SHELL.
 pub const SHELLS: [&str; 3] = ["bash", "zsh", "fish"];
@@ -127,8 +134,8 @@ pub static COMMANDS: [Command; 14] = [
         verb: Verb::Check,
         group: Group::Look,
         words: &["FILE..."],
-        summary: "judge a file: its index and sizes, and with --scans its scans",
-        details: &[],
+        summary: "judge a file: its form, index and sizes, and with --scans its scans",
+        details: &["Scans that an old file says are not SDD version 1 are listed, and are no damage."],
         options: &[&[flag("scans", "read every scan too, and list each that breaks a rule; status 11 where one does")]],
     },
     Command {
@@ -137,7 +144,7 @@ pub static COMMANDS: [Command; 14] = [
         group: Group::Look,
         words: &["FILE", "SLOT"],
         summary: "print the index entry of a slot",
-        details: &[],
+        details: &["An old file's entry has a magic number too: 1 IEEE KEEP, 2 SDD version 1."],
         options: &[],
     },
     Command {
@@ -146,7 +153,7 @@ pub static COMMANDS: [Command; 14] = [
         group: Group::Look,
         words: &["FILE", "SLOT"],
         summary: "list the classes and the data of a slot's scan: from and to byte, and length",
-        details: &[],
+        details: &[READ_DETAILS],
         options: &[],
     },
     Command {
@@ -164,7 +171,7 @@ pub static COMMANDS: [Command; 14] = [
         group: Group::Look,
         words: &["FILE", "SLOT"],
         summary: "write out a slot's scan",
-        details: &[],
+        details: &[READ_DETAILS],
         options: &[&BYTES],
     },
     Command {
@@ -173,7 +180,7 @@ pub static COMMANDS: [Command; 14] = [
         group: Group::Change,
         words: &["FILE", "SLOT", "SCAN"],
         summary: "save a scan to a slot; over another scan only with --replace",
-        details: &[SAVE_DETAILS, ABOUT_DETAILS],
+        details: &[SAVE_DETAILS, OLD_DETAILS, ABOUT_DETAILS],
         options: &[&[flag("replace", "lose the scan that the slot has")], &ABOUT],
     },
     Command {
@@ -182,7 +189,7 @@ pub static COMMANDS: [Command; 14] = [
         group: Group::Change,
         words: &["FILE", "SCAN"],
         summary: "save a scan to the lowest empty slot",
-        details: &[KEEP_DETAILS, ABOUT_DETAILS],
+        details: &[KEEP_DETAILS, OLD_DETAILS, ABOUT_DETAILS],
         options: &[&[flag("again", "keep a scan that the file has already")], &ABOUT],
     },
     Command {
@@ -191,7 +198,7 @@ pub static COMMANDS: [Command; 14] = [
         group: Group::Change,
         words: &["FILE", "SLOT"],
         summary: "empty a slot, after a question",
-        details: &["Where standard input is no terminal nobody can be asked, and --yes has to be given."],
+        details: &["Where standard input is no terminal nobody can be asked, and --yes has to be given.", OLD_DETAILS],
         options: &[&[flag("yes", "clear the slot without a question")]],
     },
     Command {
@@ -200,7 +207,9 @@ pub static COMMANDS: [Command; 14] = [
         group: Group::Make,
         words: &["FILE"],
         summary: "make a file without scans",
-        details: &["A file that has bytes is refused unless --force is given. It is never made shorter."],
+        details: &[
+            "A file that has bytes is refused unless --force is given. It is never made shorter, and gets the current form.",
+        ],
         options: &[&SIZES],
     },
     Command {
@@ -257,7 +266,7 @@ pub fn is_file(name: &str) -> bool {
 /// What ends a run: the status, and when.
 pub const STATUSES: [(&str, &str); 9] = [
     ("0", "done"),
-    ("1 to 17", "refused with this number"),
+    ("1 to 18", "refused with this number"),
     ("64", "bad usage"),
     ("66", "no such file"),
     ("73", "something would be lost or doubled (the sentence names the option that does it)"),

@@ -5,7 +5,7 @@ use Rattle.entries.proofs.plain.four_empty.Statement.{statement}
 use Rattle.entries.proofs.plain.four_empty.Tie as tie
 
 returns : tie.Need-returns
-returns c e = bare-four _ _ _ _ _ _ _ (c .before .before .before .before .before .before .before .run-at .ensures) (c .before .before .before .before .before .before .run-at2 .ensures) (c .before .before .before .before .before .run-at3 .ensures) (c .before .before .before .before .run-at4 .ensures) (eqb-true _ _ e)
+returns c e = bare-four _ _ _ _ _ _ _ (c .before .before .before .filled-at .ensures) (c .before .before .filled-at2 .ensures) (c .before .filled-at3 .ensures) (c .filled-at4 .ensures) (eqb-true _ _ e)
 
 pub four-empty-spec : {M : Type 1} → statement M
 four-empty-spec =
@@ -19,10 +19,6 @@ four-empty-spec =
     (λ c κs. search needs)
     (λ c. search needs)
     (λ c κs. search needs)
-    (λ c. search needs)
-    (λ c. search needs)
-    (λ c. search needs)
-    (λ c. search needs)
     (λ c. search needs)
     (λ c. search needs)
     (λ c. search needs)

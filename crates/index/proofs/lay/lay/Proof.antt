@@ -24,14 +24,14 @@ same-length-3 c = c .before .before .before .lay-row .kept .1 .1 .1 .0 ∙ c .be
 returns-2 : tie.Need-returns-2
 returns-2 c = let s = c .before .before .before .before .before .before .before .before .before .before .before .before .before .before in (record { most = omega arith; runs = runs-low (s .pre .0 .runs) _ (omega arith); fits = fits-low (s .pre .1 .0 .1) _ (omega arith) }, λ l. absurd (omega arith))
 
-lay-on-requires : tie.Need-lay-on-requires
-lay-on-requires c κs = let s = c .before .before .before .before .before .before .before .before .before .before .before .before .before .before .before .before in (s .pre .0, (s .pre .1 .0 .1, (record { long = omega (arith, c .before .before .before .before .before .lay-row .kept .1 .1 .1 .0, c .before .before .before .before .before .before .before .before .before .before .before .take-run .kept .0) }, shows-row (rowRun _) (runOf _ (s .args .z)) _ (s .pre .0 .runs .run) _ _ (c .before .before .before .before .before .lay-row .ensures .1 (omega arith)))))
+lay-more-requires : tie.Need-lay-more-requires
+lay-more-requires c κs = let s = c .before .before .before .before .before .before .before .before .before .before .before .before .before .before .before .before in (s .pre .0, (s .pre .1 .0 .1, (record { long = omega (arith, c .before .before .before .before .before .lay-row .kept .1 .1 .1 .0, c .before .before .before .before .before .before .before .before .before .before .before .take-run .kept .0) }, shows-row (rowRun _) (runOf _ (s .args .z)) _ (s .pre .0 .runs .run) _ _ (c .before .before .before .before .before .lay-row .ensures .1 (omega arith)))))
 
 same-length-5 : tie.Need-same-length-5
-same-length-5 c = c .before .before .before .before .lay-on .kept .1 .1 .1 .1 .0 ∙ c .before .before .before .before .before .before .before .before .before .before .lay-row .kept .1 .1 .1 .0 ∙ c .before .before .before .before .before .before .before .before .before .before .before .before .before .before .before .before .take-run .kept .0
+same-length-5 c = c .before .before .before .before .lay-more .kept .1 .1 .1 .1 .0 ∙ c .before .before .before .before .before .before .before .before .before .before .lay-row .kept .1 .1 .1 .0 ∙ c .before .before .before .before .before .before .before .before .before .before .before .before .before .before .before .before .take-run .kept .0
 
 returns-3 : tie.Need-returns-3
-returns-3 c = c .before .before .before .before .lay-on .ensures
+returns-3 c = c .before .before .before .before .lay-more .ensures
 
 pub lay-spec : {M : Type 1} → statement M
 lay-spec =
@@ -44,7 +44,7 @@ lay-spec =
     (λ c. search needs)
     same-length-3
     returns-2
-    lay-on-requires
+    lay-more-requires
     (λ c. search needs)
     same-length-5
     returns-3)

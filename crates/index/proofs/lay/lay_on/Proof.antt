@@ -19,40 +19,40 @@ abbrev μ-loop : tie.MeasureT-loop
 μ-loop file z j row₀ marks₀ u top i₀ row marks i = u - i
 
 loop-holds : tie.Need-loop-holds Inv-loop μ-loop
-loop-holds c = let s = c .before .before .before .before in (s .pre .0 .most, refl, refl, s .pre .0 .runs, s .pre .1 .0, s .pre .1 .1 .1)
+loop-holds c = let s = c .before .before .before .before in (s .pre .0 .0 .most, refl, refl, s .pre .0 .0 .runs, s .pre .1 .0, s .pre .1 .1 .1)
 
-put-run-requires : tie.Need-put-run-requires Inv-loop μ-loop
-put-run-requires c κs = let s = c .before .before .before .before .before .before .before in let d = c .before .before in (record { booted = s .pre .0 .booted; low = omega arith; high = omega arith }, (record { low = omega arith; high = omega arith; wide = omega (arith, d .loop .inv .1) }, runs-low (d .loop .inv .3) _ (omega arith)))
+put-current-requires : tie.Need-put-current-requires Inv-loop μ-loop
+put-current-requires c κs = let s = c .before .before .before .before .before .before .before in let d = c .before .before in ((record { booted = s .pre .0 .0 .booted; low = omega arith; high = omega arith }, s .pre .0 .1), (record { low = omega arith; high = omega arith; wide = omega (arith, d .loop .inv .1) }, runs-low (d .loop .inv .3) _ (omega arith)))
 
 same-length : tie.Need-same-length Inv-loop μ-loop
-same-length c = c .before .before .before .before .put-run .kept .1 .1 .1 .0 ∙ c .before .before .before .before .before .before .before .loop .inv .1
+same-length c = c .before .before .before .before .put-current .kept .1 .1 .1 .0 ∙ c .before .before .before .before .before .before .before .loop .inv .1
 
 same-length-2 : tie.Need-same-length-2 Inv-loop μ-loop
 same-length-2 c = c .before .before .before .before .before .before .before .loop .inv .2
 
 returns : tie.Need-returns Inv-loop μ-loop
-returns c = (record { most = omega arith; runs = runs-low (c .before .before .before .before .put-run .ensures .1) _ (omega arith); fits = c .before .before .before .before .before .before .before .loop .inv .4 }, λ l. absurd (omega arith))
+returns c = (record { most = omega arith; runs = runs-low (c .before .before .before .before .put-current .ensures .1) _ (omega arith); fits = c .before .before .before .before .before .before .before .loop .inv .4 }, λ l. absurd (omega arith))
 
 lodge-requires : tie.Need-lodge-requires Inv-loop μ-loop
 lodge-requires c κs = let h = c .before .before .well .ensures (not-false _ (c .before .if1 .left)) in (h .0, omega arith, omega (arith, h .1, c .before .before .before .before .before .before .before .before .loop .inv .2))
 
 same-length-3 : tie.Need-same-length-3 Inv-loop μ-loop
-same-length-3 c = c .before .before .before .before .before .before .before .before .before .put-run .kept .1 .1 .1 .0 ∙ c .before .before .before .before .before .before .before .before .before .before .before .before .loop .inv .1
+same-length-3 c = c .before .before .before .before .before .before .before .before .before .put-current .kept .1 .1 .1 .0 ∙ c .before .before .before .before .before .before .before .before .before .before .before .before .loop .inv .1
 
 same-length-4 : tie.Need-same-length-4 Inv-loop μ-loop
 same-length-4 c = c .before .before .before .lodge .kept .1 .0 ∙ c .before .before .before .before .before .before .before .before .before .before .before .before .loop .inv .2
 
 returns-2 : tie.Need-returns-2 Inv-loop μ-loop
-returns-2 c = (record { most = omega arith; runs = runs-low (c .before .before .before .before .before .before .before .before .before .put-run .ensures .1) _ (omega arith); fits = c .before .before .before .before .before .before .before .before .before .before .before .before .loop .inv .4 }, λ l. absurd (omega arith))
+returns-2 c = (record { most = omega arith; runs = runs-low (c .before .before .before .before .before .before .before .before .before .put-current .ensures .1) _ (omega arith); fits = c .before .before .before .before .before .before .before .before .before .before .before .before .loop .inv .4 }, λ l. absurd (omega arith))
 
 skip-requires : tie.Need-skip-requires Inv-loop μ-loop
-skip-requires c κs = record { booted = c .before .before .before .before .before .before .before .before .before .before .before .before .before .before .before .before .before .before .pre .0 .booted; wide = omega (arith, c .before .before .before .before .before .before .before .before .before .before .put-run .kept .1 .1 .1 .0, c .before .before .before .before .before .before .before .before .before .before .before .before .before .loop .inv .1); most = omega arith; runs = c .before .before .before .before .before .before .before .before .before .before .put-run .ensures .1 }
+skip-requires c κs = record { booted = c .before .before .before .before .before .before .before .before .before .before .before .before .before .before .before .before .before .before .pre .0 .0 .booted; wide = omega (arith, c .before .before .before .before .before .before .before .before .before .before .put-current .kept .1 .1 .1 .0, c .before .before .before .before .before .before .before .before .before .before .before .before .before .loop .inv .1); most = omega arith; runs = c .before .before .before .before .before .before .before .before .before .before .put-current .ensures .1 }
 
 loop-less : tie.Need-loop-less Inv-loop μ-loop
 loop-less c = omega (arith, c .before .before .skip .ensures .bare .low, c .before .before .skip .ensures .most)
 
 loop-again : tie.Need-loop-again Inv-loop μ-loop
-loop-again c = let z = c .before .before .before .before .before .before .before .before .before .before .before .before .before .before .before .before .before .before .before .before .before .args .z in let d = c .before .before .before .before .before .before .before .before .before .before .before .before .before .before .before .before in let e = c .before .before .before .before .before .before .before .before .before .before .before .before .before .put-run .ensures .0 .is in let h = c .before .before .before .before .before .before .before .lodge .ensures (not-false _ (c .before .before .before .before .if2 .left)) in let w = c .before .before .before .before .before .before .before .before .before .before .well .ensures (not-false _ (c .before .before .before .before .before .before .before .before .before .if1 .left)) in let k = c .before .before .skip .ensures in (k .most, c .before .before .skip .kept .1 .1 .1 .1 .0 ∙ c .before .before .before .before .before .before .before .before .before .before .before .before .before .put-run .kept .1 .1 .1 .0 ∙ d .loop .inv .1, c .before .before .before .before .before .before .before .lodge .kept .1 .0 ∙ d .loop .inv .2, k .runs, fits-bare (k .bare) (fits-more (runOf _ z) _ e h (w .0) (w .1) (d .loop .inv .5) (d .loop .inv .4)), shows-bare (k .bare) (shows-more (runOf _ z) _ e h (d .loop .inv .5)))
+loop-again c = let z = c .before .before .before .before .before .before .before .before .before .before .before .before .before .before .before .before .before .before .before .before .before .args .z in let d = c .before .before .before .before .before .before .before .before .before .before .before .before .before .before .before .before in let e = c .before .before .before .before .before .before .before .before .before .before .before .before .before .put-current .ensures .0 .is in let h = c .before .before .before .before .before .before .before .lodge .ensures (not-false _ (c .before .before .before .before .if2 .left)) in let w = c .before .before .before .before .before .before .before .before .before .before .well .ensures (not-false _ (c .before .before .before .before .before .before .before .before .before .if1 .left)) in let k = c .before .before .skip .ensures in (k .most, c .before .before .skip .kept .1 .1 .1 .1 .0 ∙ c .before .before .before .before .before .before .before .before .before .before .before .before .before .put-current .kept .1 .1 .1 .0 ∙ d .loop .inv .1, c .before .before .before .before .before .before .before .lodge .kept .1 .0 ∙ d .loop .inv .2, k .runs, fits-bare (k .bare) (fits-more (runOf _ z) _ e h (w .0) (w .1) (d .loop .inv .5) (d .loop .inv .4)), shows-bare (k .bare) (shows-more (runOf _ z) _ e h (d .loop .inv .5)))
 
 same-length-5 : tie.Need-same-length-5 Inv-loop μ-loop
 same-length-5 c = c .before .loop .inv .1
@@ -72,7 +72,7 @@ lay-on-spec =
     (λ c. search needs)
     loop-holds
     (λ c. search needs)
-    put-run-requires
+    put-current-requires
     (λ c κs. search needs)
     same-length
     same-length-2

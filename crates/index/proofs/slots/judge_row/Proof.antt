@@ -13,8 +13,11 @@ returns c = (c .judge-above .ensures, runs-all _ _ _ _ (c .before .before .befor
 marks-small-requires : tie.Need-marks-small-requires
 marks-small-requires c κs = let s = c .before .before .before .before .before .before .before .before .before .before .before in let r = c .before .before .before .before .before .before .before .rise in (record { booted = s .pre .0; wide = omega (arith, r .kept .1 .1 .0, s .pre .1); most = r .ensures .most; runs = r .ensures .runs }, ((omega arith, r .ensures .fits), omega arith))
 
+marks-middle-requires : tie.Need-marks-middle-requires
+marks-middle-requires c κs = let s = c .before .before .before .before .before .before .before .before .before .before .before .before .before in let r = c .before .before .before .before .before .before .before .before .before .rise in (record { booted = s .pre .0; wide = omega (arith, r .kept .1 .1 .0, s .pre .1); most = r .ensures .most; runs = r .ensures .runs }, ((omega arith, r .ensures .fits), omega arith))
+
 marks-large-requires : tie.Need-marks-large-requires
-marks-large-requires c κs = let s = c .before .before .before .before .before .before .before .before .before .before .before in let r = c .before .before .before .before .before .before .before .rise in (record { booted = s .pre .0; wide = omega (arith, r .kept .1 .1 .0, s .pre .1); most = r .ensures .most; runs = r .ensures .runs }, (omega arith, r .ensures .fits))
+marks-large-requires c κs = let s = c .before .before .before .before .before .before .before .before .before .before .before .before .before in let r = c .before .before .before .before .before .before .before .before .before .rise in (record { booted = s .pre .0; wide = omega (arith, r .kept .1 .1 .0, s .pre .1); most = r .ensures .most; runs = r .ensures .runs }, (omega arith, r .ensures .fits))
 
 pub judge-row-spec : {M : Type 1} → statement M
 judge-row-spec =
@@ -26,6 +29,10 @@ judge-row-spec =
     returns
     (λ c. search needs)
     marks-small-requires
+    (λ c. search needs)
+    (λ c. search needs)
+    (λ c. search needs)
+    marks-middle-requires
     (λ c. search needs)
     (λ c. search needs)
     marks-large-requires

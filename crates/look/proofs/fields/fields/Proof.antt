@@ -7,21 +7,26 @@ use Rattle.look.proofs.fields.fields.Statement.{statement}
 use Rattle.look.proofs.fields.fields.Tie as tie
 
 returns : tie.Need-returns
-returns c = let a = c .before .before .before .before .before .before .before .before .before .before .before .before .before .before .before .before .before .before .args in entry-is (a .file .now) (a .at)
-    (c .before .before .before .before .before .before .before .before .before .before .before .before .before .word322 .ensures)
-    (c .before .before .before .before .before .before .before .before .before .before .before .before .word323 .ensures)
-    (c .before .before .before .before .before .before .before .before .before .before .before .word324 .ensures)
-    (c .before .before .before .before .before .before .before .before .before .before .word325 .ensures)
-    (c .before .before .before .before .before .before .before .before .before .source .ensures ∙ source-end (a .file .now) (a .at))
-    (c .before .before .before .before .before .before .before .before .word326 .ensures)
-    (c .before .before .before .before .before .before .before .before .before .before .before .before .before .before .before .word32 .ensures)
-    (c .before .before .before .before .before .before .before .before .before .before .before .before .before .before .word64 .ensures)
-    (c .before .before .before .before .before .before .before .word327 .ensures)
-    (c .before .before .before .before .before .before .word328 .ensures)
-    (toZ-ofZ (record { sfits = c .before .before .before .before .before .int16 .ok }) ∙ c .before .before .before .before .before .int16 .ensures)
-    (toZ-ofZ (record { sfits = c .before .before .before .before .int162 .ok }) ∙ c .before .before .before .before .int162 .ensures)
-    (toZ-ofZ (record { sfits = c .before .before .before .int163 .ok }) ∙ c .before .before .before .int163 .ensures)
-    (c .kind .ensures ∙ kind-same (c .before .before .before .before .before .before .before .before .before .before .before .before .before .before .before .before .word16 .ensures) (c .before .before .single .ensures ∙ ap (ofBits binary32) (c .before .before .before .before .before .before .before .before .before .before .before .before .before .before .before .word32 .ensures)) (c .before .double .ensures ∙ ap (ofBits binary64) (c .before .before .before .before .before .before .before .before .before .before .before .before .before .before .word64 .ensures)) ∙ kind-bits _ _ _)
+returns c =
+    let a = c .before .before .before .before .before .before .before .before .before .before .before .before .before .before .before .before .before .before .before .args in
+    entry-is (a .version) (a .file .now) (a .at)
+    (c .before .before .before .before .before .before .before .before .before .before .before .before .before .before .word .ensures)
+    (c .before .before .before .before .before .before .before .before .before .before .before .before .before .word2 .ensures)
+    (c .before .before .before .before .before .before .before .before .before .before .before .before .word322 .ensures)
+    (c .before .before .before .before .before .before .before .before .before .before .before .word323 .ensures)
+    (c .before .before .before .before .before .before .before .before .before .before .source .ensures ∙ source-end (a .file .now) (a .at))
+    (c .before .before .before .before .before .before .before .before .before .word324 .ensures)
+    (c .before .before .before .before .before .before .before .before .before .before .before .before .before .before .before .before .word32 .ensures)
+    (c .before .before .before .before .before .before .before .before .before .before .before .before .before .before .before .word64 .ensures)
+    (c .before .before .before .before .before .before .before .before .word325 .ensures)
+    (c .before .before .before .before .before .before .before .word326 .ensures)
+    (toZ-ofZ (record { sfits = c .before .before .before .before .before .before .int16 .ok }) ∙ c .before .before .before .before .before .before .int16 .ensures)
+    (toZ-ofZ (record { sfits = c .before .before .before .before .before .int162 .ok }) ∙ c .before .before .before .before .before .int162 .ensures)
+    (toZ-ofZ (record { sfits = c .before .before .before .before .position .ok }) ∙ c .before .before .before .before .position .ensures)
+    (toZ-ofZ (record { sfits = c .before .before .before .magic .ok }) ∙ c .before .before .before .magic .ensures)
+    (c .kind .ensures
+    ∙ kind-same (c .before .before .before .before .before .before .before .before .before .before .before .before .before .before .before .before .before .word16 .ensures) (c .before .before .single .ensures ∙ ap (ofBits binary32) (c .before .before .before .before .before .before .before .before .before .before .before .before .before .before .before .before .word32 .ensures)) (c .before .double .ensures ∙ ap (ofBits binary64) (c .before .before .before .before .before .before .before .before .before .before .before .before .before .before .before .word64 .ensures))
+    ∙ kind-bits _ _ _)
 
 pub fields-spec : {M : Type 1} → statement M
 fields-spec =
@@ -34,7 +39,6 @@ fields-spec =
     (λ c. search needs)
     (λ c κs. search needs)
     (λ c κs. search needs)
-    (λ c. search needs)
     (λ c κs. search needs)
     (λ c. search needs)
     (λ c κs. search needs)
@@ -52,7 +56,7 @@ fields-spec =
     (λ c κs. search needs)
     (λ c. search needs)
     (λ c κs. search needs)
-    (λ c. search needs)
+    (λ c κs. search needs)
     (λ c κs. search needs)
     (λ c. search needs)
     (λ c κs. search needs)

@@ -1,5 +1,5 @@
 use Rattle.look.proofs.Fielding.{found-held, found-refused}
-use Rattle.look.proofs.Slots.{held, entry-slotted, entry-in}
+use Rattle.look.proofs.Slots.{held, entry-slotted, entry-in, entry-small}
 use mathlib.Core.Path.{sym, _∙_}
 use borrow.Author.Needs.{needs}
 use Rattle.look.proofs.fields.found.Statement.{statement}
@@ -9,7 +9,7 @@ home-requires : tie.Need-home-requires
 home-requires c κs = entry-slotted _ _ (held _ _ (sym (c .before .before .before .find .ensures) ∙ c .before .h .given .1))
 
 fields-requires : tie.Need-fields-requires
-fields-requires c κs = rw (c .home .ensures) (entry-in _ _ (held _ _ (sym (c .before .before .before .before .find .ensures) ∙ c .before .before .h .given .1)))
+fields-requires c κs = let h = held _ _ (sym (c .before .before .before .before .find .ensures) ∙ c .before .before .h .given .1) in rw (c .home .ensures) (entry-in _ _ h, entry-small _ _ h)
 
 returns : tie.Need-returns
 returns c = found-held _ _ (sym (c .before .before .before .before .before .find .ensures) ∙ c .before .before .before .h .given .1) (c .before .home .ensures) (c .fields .ensures)

@@ -15,7 +15,8 @@ returns c =
     let mode = toZ-ofZ {w = w16} {z = c .before .before .before .before .before .before .before .entry .result .entry .mode} (record { sfits = c .struct-told .given .1 .1 .1 .1 .1 .1 .1 .1 .1 .1 .0 .1 }) in
     let number = toZ-ofZ {w = w16} {z = c .before .before .before .before .before .before .before .entry .result .entry .number} (record { sfits = c .struct-told .given .1 .1 .1 .1 .1 .1 .1 .1 .1 .1 .1 .0 .1 }) in
     let position = toZ-ofZ {w = w16} {z = c .before .before .before .before .before .before .before .entry .result .entry .position} (record { sfits = c .struct-told .given .1 .1 .1 .1 .1 .1 .1 .1 .1 .1 .1 .1 .0 .1 }) in
-    rw (mode, number, position, c .before .before .before .before .taken .ensures, c .before .before .before .number .ensures, c .before .before .single .ensures, c .before .double .ensures)
+    let magic = toZ-ofZ {w = w16} {z = c .before .before .before .before .before .before .before .entry .result .entry .magic} (record { sfits = c .struct-told .given .1 .1 .1 .1 .1 .1 .1 .1 .1 .1 .1 .1 .1 .0 .1 }) in
+    rw (mode, number, position, magic, c .before .before .before .before .taken .ensures, c .before .before .before .number .ensures, c .before .before .single .ensures, c .before .double .ensures)
     (found-face (c .before .before .before .before .before .before .before .entry .result) (foundOf (c .before .before .before .before .before .before .before .before .before .args .file .now) (c .before .before .before .before .before .before .before .before .before .args .slot)) (c .before .before .before .before .before .before .before .entry .ensures .0) (c .before .before .before .before .before .before .before .entry .ensures .1 .0))
 
 pub sdd-entry-at-spec : {M : Type 1} → statement M

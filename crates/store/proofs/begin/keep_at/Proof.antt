@@ -1,4 +1,4 @@
-use Rattle.paper.proofs.Opening.{open-sound}
+use Rattle.paper.proofs.Opening.{change-sound}
 use Rattle.store.proofs.Rooms.{empty-there}
 use Rattle.store.proofs.Starting.{keep-none, keep-on}
 use mathlib.Core.Path.{refl}
@@ -16,7 +16,7 @@ pub keep-at-spec : {M : Type 1} → statement M
 keep-at-spec =
     tie.close
     (tie.spec
-    (λ c κs. let s = c .before .before .before .before in (open-sound (s .pre .opens) .booted .ranged, s .pre .wide))
+    (λ c κs. let s = c .before .before .before .before in (change-sound _ (s .pre .opens) .booted .ranged, s .pre .wide))
     (λ c κs. search needs)
     returns
     (λ c κs. c .before .before .before .before .before .before .pre)

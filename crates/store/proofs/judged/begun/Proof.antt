@@ -1,18 +1,19 @@
 use Rattle.store.proofs.Starting.{goal-out}
-use Rattle.index.proofs.Answers.{booted, refused-open}
+use mathlib.Core.Path.{sym, _∙_}
+use Rattle.paper.proofs.Opening.{change-refused, boot-changes}
 use native.Mathlib.Omega.{arith}
 use borrow.Author.Needs.{needs}
 use Rattle.store.proofs.judged.begun.Statement.{statement}
 use Rattle.store.proofs.judged.begun.Tie as tie
 
 returns : tie.Need-returns
-returns c = let a = c .before .before .before .before .before .before .args in let e = c .before .enum-told .given .1 in goal-out (a .file .now) (a .goal) (a .scan .now) (a .about) _ (refused-open _ _ _ (c .before .before .before .boot .ensures) e) _ _ e (c .handed-on .ensures)
+returns c = let a = c .before .before .before .before .before .before .args in let e = c .before .enum-told .given .1 in goal-out (a .file .now) (a .goal) (a .scan .now) (a .about) _ (e ∙ sym (change-refused _ (sym (c .before .before .before .boot .ensures) ∙ e))) _ _ e (c .handed-on .ensures)
 
 row-small-requires : tie.Need-row-small-requires
-row-small-requires c κs = (booted _ _ (c .before .before .before .before .before .boot .ensures) (c .before .before .before .o .given .1), omega arith)
+row-small-requires c κs = (let h = sym (c .before .before .before .before .before .boot .ensures) ∙ c .before .before .before .o .given .1 in record { may = h; booted = boot-changes _ h }, omega arith)
 
 row-large-requires : tie.Need-row-large-requires
-row-large-requires c κs = booted _ _ (c .before .before .before .before .before .boot .ensures) (c .before .before .before .o .given .1)
+row-large-requires c κs = let h = sym (c .before .before .before .before .before .boot .ensures) ∙ c .before .before .before .o .given .1 in record { may = h; booted = boot-changes _ h }
 
 pub begun-spec : {M : Type 1} → statement M
 begun-spec =

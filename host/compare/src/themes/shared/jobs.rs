@@ -2,7 +2,7 @@
 
 use super::slots;
 use crate::call::Call;
-use crate::cases::shape::Shape;
+use crate::cases::shape::{Form, Shape};
 use crate::cases::{damage, make};
 use crate::world::{Round, World};
 use face::Job;
@@ -28,9 +28,9 @@ pub fn new_scan(world: &mut World) {
     world.set_about(about);
 }
 
-/// Sets a small file up with a right scan, and begins a job on them; none where it is refused.
+/// Sets a small file up that can be changed, with a right scan, and begins a job on them; none where it is refused.
 pub fn begin_any(world: &mut World) -> Round<Option<(Shape, Call, Job)>> {
-    let (shape, file) = make::small_file(&mut world.rng);
+    let (shape, file) = make::small_file(&mut world.rng, Form::Current);
     world.set_file(file);
     let most = world.rng.pick(&[272, 600, 700, 1_200, 1_500, 2_500]);
     let scan = make::scan(&mut world.rng, most);

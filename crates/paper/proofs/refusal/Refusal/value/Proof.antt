@@ -3,18 +3,6 @@ use borrow.Author.Needs.{needs}
 use Rattle.paper.proofs.refusal.Refusal.value.Statement.{statement}
 use Rattle.paper.proofs.refusal.Refusal.value.Tie as tie
 
-returns-6 : tie.Need-returns-6
-returns-6 c = rw (c .before .self .given .1)
-
-returns-7 : tie.Need-returns-7
-returns-7 c = rw (c .before .self2 .given .1)
-
-returns-8 : tie.Need-returns-8
-returns-8 c = rw (c .before .self3 .given .1)
-
-returns-11 : tie.Need-returns-11
-returns-11 c = rw (c .before .self4 .given .1)
-
 pub value-spec : {M : Type 1} → statement M
 value-spec =
     tie.close
@@ -37,19 +25,21 @@ value-spec =
     (λ c. search needs)
     (λ c. search needs)
     (λ c. search needs)
-    (λ c. search needs)
-    (λ c. search needs)
-    (λ c. search needs)
-    (λ c. search needs)
-    returns-6
-    returns-7
-    returns-8
-    (λ c. search needs)
-    (λ c. search needs)
-    returns-11
-    (λ c. search needs)
-    (λ c. search needs)
-    (λ c. search needs)
-    (λ c. search needs)
-    (λ c. search needs)
-    (λ c. search needs))
+    (λ c. rw (c .enum-told .given .1))
+    (λ c. rw (c .enum-told2 .given .1))
+    (λ c. rw (c .enum-told3 .given .1))
+    (λ c. rw (c .enum-told4 .given .1))
+    (λ c. rw (c .enum-told5 .given .1))
+    (λ c. rw (c .before .self .given .1))
+    (λ c. rw (c .before .self2 .given .1))
+    (λ c. rw (c .before .self3 .given .1))
+    (λ c. rw (c .enum-told6 .given .1))
+    (λ c. rw (c .enum-told7 .given .1))
+    (λ c. rw (c .before .self4 .given .1))
+    (λ c. rw (c .enum-told8 .given .1))
+    (λ c. rw (c .enum-told9 .given .1))
+    (λ c. rw (c .enum-told10 .given .1))
+    (λ c. rw (c .enum-told11 .given .1))
+    (λ c. rw (c .enum-told12 .given .1))
+    (λ c. rw (c .enum-told13 .given .1))
+    (λ c. rw (c .enum-told14 .given .1)))

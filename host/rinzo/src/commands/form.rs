@@ -1,0 +1,44 @@
+//! The form of a file and of its scans, for people and for programs.
+
+use crate::say::json::Json;
+use sdd::{Entry, Form};
+
+/// One word for a form.
+pub fn name(form: Form) -> &'static str {
+    match form {
+        Form::Old => "old",
+        Form::Current => "current",
+    }
+}
+
+/// A form as a field of an answer.
+pub fn field(form: Form) -> (&'static str, Json) {
+    ("form", Json::text(name(form)))
+}
+
+/// Text with a word more where the file is old. The current form's lines are the lister's and stay as they are.
+pub fn marked(text: String, form: Form) -> String {
+    match form {
+        Form::Old => format!("{text}, old form"),
+        Form::Current => text,
+    }
+}
+
+/// A magic number, with what it says of the scan.
+pub fn magic(magic: i16) -> String {
+    let meaning = match magic {
+        1 => "IEEE KEEP, which is shown and not read",
+        2 => "SDD version 1",
+        _ => "of no known meaning, so the scan is shown and not read",
+    };
+    format!("{magic} ({meaning})")
+}
+
+/// The magic number of an entry as a field; the current form has none.
+pub fn magic_field(entry: &Entry, form: Form) -> (&'static str, Json) {
+    let magic = match form {
+        Form::Old => Json::number(entry.magic),
+        Form::Current => Json::Plain("null".to_string()),
+    };
+    ("magic", magic)
+}
