@@ -6,11 +6,12 @@
 //! come in themes; [`run`] mixes them from a seed.
 //!
 //! From the ground up: `rng` and `call`, `cases` and `tally`, `world` with its subjects (`linked` on
-//! `guarded`, `recorder`), `themes`, `run`.
+//! `guarded`, `recorder`), `themes`, `run`. Apart from these, on `rng` alone, `lengths`.
 
 mod call;
 mod cases;
 mod guarded;
+mod lengths;
 mod linked;
 mod recorder;
 mod rng;
@@ -20,6 +21,7 @@ mod tally;
 mod themes;
 mod world;
 
+pub use lengths::{Tried, lengths};
 pub use linked::Linked;
 pub use recorder::Recorder;
 pub use run::{Ended, Options, run, say_where_on_a_fault};
