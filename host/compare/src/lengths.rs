@@ -6,11 +6,9 @@ use face::{Calls, Refusal, Span};
 use std::collections::BTreeSet;
 use std::ops::ControlFlow;
 
-/// The classes of the scan, of which the last one starts at this word.
+/// The classes of a sample, whose last one is a single word: HEADLEN can be no less than a sample has.
 const CLASSES: u64 = 13;
-const LAST_START: u64 = 32;
-/// The least HEADLEN of the scan, which is what it has while DATALEN is tried.
-const HEAD: u64 = 8 * LAST_START;
+const HEAD: u64 = sample::HEAD as u64;
 /// No length is above this.
 const MOST: u64 = 65_536;
 /// The run is longer than the rules let the two lengths be, so that it is never what refuses one.
@@ -113,13 +111,8 @@ fn random(rng: &mut Rng) -> u64 {
 
 /// A scan without data, in more bytes than it needs.
 fn scan() -> Vec<u8> {
-    let mut run = vec![0; RUN];
-    run[0..2].copy_from_slice(&(CLASSES as i16).to_be_bytes());
-    for class in 1..=CLASSES as usize {
-        let start = if class == 1 { 5 } else { (LAST_START - CLASSES) as i16 + class as i16 };
-        run[2 * class..][..2].copy_from_slice(&start.to_be_bytes());
-    }
-    run[32..40].copy_from_slice(&(HEAD as f64).to_be_bytes());
+    let mut run = sample::scan(RUN, 0);
+    run[40..48].fill(0);
     run
 }
 
@@ -136,7 +129,7 @@ fn expected(length: Length, bits: u64) -> Span {
     let span = |from, to| Span { why: Refusal::NONE, from, to };
     let broken = |rule| Span { why: Refusal { number: 11, value: rule }, from: 0, to: 0 };
     match (length, whole(bits)) {
-        (Length::Head, Some(n)) if n % 8 == 0 && (HEAD..=MOST).contains(&n) => span(8 * (LAST_START - 1), n),
+        (Length::Head, Some(n)) if n % 8 == 0 && (HEAD..=MOST).contains(&n) => span(HEAD - 8, n),
         (Length::Head, _) => broken(4),
         (Length::Data, Some(n)) if n % 4 == 0 && n <= MOST => span(HEAD, HEAD + n),
         (Length::Data, _) => broken(5),
