@@ -1,19 +1,19 @@
 -- The laws of numbers in a run of bytes, each once for every width and both byte orders.
 use Prim.Native.Nat.{ℕ, zero, suc, _+_, _-_, _*_, _/_, _%_, _^_, _≤_, _<_}
 use mathlib.Core.Path.{_≡_, refl, sym, _∙_, ap}
-use mathlib.Core.List.{List, [], _∷_, _++_, append-assoc}
+use mathlib.Core.List.{List, [], _∷_, _++_, append-assoc, append-nil}
 use native.Mathlib.Omega.{arith}
 use mathlib.Core.Logic.{⊎-elim}
-use native.Mathlib.Nat.{add-assoc, add-zero, add-suc, zero-add, add-mul, sub-self, mul-one, mul-comm, mul-assoc, pow-suc, pow-zero, div-one, div-eq-of-lt, div-add-mod', div-div-eq-div-mul}
+use native.Mathlib.Nat.{add-assoc, add-zero, add-suc, zero-add, add-mul, sub-self, mul-one, mul-zero, mul-suc, mul-comm, mul-assoc, pow-suc, pow-zero, div-one, div-eq-of-lt, div-add-mod', div-div-eq-div-mul}
 use lib.Arith.{digits-div}
 use lib.ListN.{length, getD, length-append, List·getD-append, List·getD-eq-default}
 use lib.Seq.{getD-append-add, ext-getD}
 use Rattle.lent.specs.Lists.{table}
-use Rattle.lent.specs.Number.{Order, big, little, byteOf, value, digit, number, bytes, words}
+use Rattle.lent.specs.Number.{Order, big, little, byteOf, value, digit, number, bytes, numbers}
 use Rattle.lent.specs.Part.{part, Alike}
 use Rattle.lent.specs.Write.{write, zeros, pad}
 use Rattle.lent.proofs.Lists.{lt-or-ge, length-table, table-at}
-use Rattle.lent.proofs.Writes.{write-in, getD-zeros, pad-at}
+use Rattle.lent.proofs.Writes.{write-in, write-then, getD-zeros, pad-at}
 use Rattle.lent.proofs.Parts.{length-part, part-at}
 
 -- ---- digits
@@ -166,18 +166,38 @@ pub bytes-four : (v a b c d : ℕ) → a ≡ v / 16777216 % 256 → b ≡ v / 65
 unfolding bytes table digit
 bytes-four v a b c d p q r s = rw (p, q, r, s, div-one v)
 
--- ---- words
+-- ---- numbers in a row
 
-pub length-words : (vs : List ℕ) → length (words vs) ≡ 4 * length vs
-unfolding words
-length-words [] = refl
-length-words (v ∷ vs) = simp (length-append, length-words vs, length-bytes big 4 v) (omega arith)
+module _ (n : ℕ) where
+  pub length-numbers : (vs : List ℕ) → length (numbers n vs) ≡ n * length vs
+  unfolding numbers
+  length-numbers [] = sym (mul-zero n)
+  length-numbers (v ∷ vs) = simp (length-append, length-numbers vs, length-bytes big n v) (omega (arith, mul-suc n (length vs)))
 
-pub words-at : (vs rest : List ℕ) (i : ℕ) → i < length vs → getD vs i 0 < 4294967296 → number big 4 (words vs ++ rest) (4 * i) ≡ getD vs i 0
-unfolding words
-words-at [] rest i h l = absurd (omega arith)
-words-at (v ∷ vs) rest zero h l = rw append-assoc (number-bytes big 4 v (words vs ++ rest) l)
-words-at (v ∷ vs) rest (suc i) h l =
-    let b = bytes big 4 v in
-    let e : 4 * suc i ≡ length b + 4 * i = omega (arith, length-bytes big 4 v) in
-    rw (append-assoc, e) (number-after big 4 b (words vs ++ rest) (4 * i) ∙ words-at vs rest i (omega arith) l)
+  pub numbers-at : (vs rest : List ℕ) (i : ℕ) → i < length vs → getD vs i 0 < 256 ^ n → number big n (numbers n vs ++ rest) (n * i) ≡ getD vs i 0
+  unfolding numbers
+  numbers-at [] rest i h l = absurd (omega arith)
+  numbers-at (v ∷ vs) rest zero h l = rw (append-assoc, mul-zero n) (number-bytes big n v (numbers n vs ++ rest) l)
+  numbers-at (v ∷ vs) rest (suc i) h l =
+      let b = bytes big n v in
+      let e : n * suc i ≡ length b + n * i = mul-suc n i ∙ omega (arith, length-bytes big n v) in
+      rw (append-assoc, e) (number-after big n b (numbers n vs ++ rest) (n * i) ∙ numbers-at vs rest i (omega arith) l)
+
+  pub numbers-append : (vs ws : List ℕ) → numbers n (vs ++ ws) ≡ numbers n vs ++ numbers n ws
+  unfolding numbers
+  numbers-append [] ws = refl
+  numbers-append (v ∷ vs) ws = rw (numbers-append vs ws, append-assoc)
+
+  number-one : (v : ℕ) → numbers n (v ∷ []) ≡ bytes big n v
+  unfolding numbers
+  number-one v = append-nil (bytes big n v)
+
+  -- the first number, and the next one, as the calls that put them leave the run
+  pub number-first : (f g : List ℕ) (at v : ℕ) → g ≡ write f at (bytes big n v) → g ≡ write f at (numbers n (v ∷ []))
+  number-first f g at v p = p ∙ ap (write f at) (sym (number-one v))
+
+  pub number-next : (f g h : List ℕ) (at e : ℕ) (vs : List ℕ) (v : ℕ) → g ≡ write f at (numbers n vs) → h ≡ write g e (bytes big n v) → at + n * length vs ≡ e
+      → at ≤ length f → h ≡ write f at (numbers n (vs ++ (v ∷ [])))
+  number-next f g h at e vs v p q k l =
+      write-then f g h at e (numbers n vs) (bytes big n v) p q (ap (λ (x : ℕ). at + x) (length-numbers vs) ∙ k) l
+      ∙ ap (λ (b : List ℕ). write f at (numbers n vs ++ b)) (sym (number-one v)) ∙ ap (write f at) (sym (numbers-append vs (v ∷ [])))

@@ -44,10 +44,14 @@ be32 s at = number big 4 s at
 abbrev pub be64 : List ℕ → ℕ → ℕ
 be64 s at = number big 8 s at
 
--- 32-bit numbers, one after the other
-unfoldable pub words : List ℕ → List ℕ
-words [] = []
-words (v ∷ vs) = bytes big 4 v ++ words vs
+-- numbers of n bytes, one after the other
+unfoldable pub numbers : ℕ → List ℕ → List ℕ
+numbers n [] = []
+numbers n (v ∷ vs) = bytes big n v ++ numbers n vs
+
+-- of 32 bits
+abbrev pub words : List ℕ → List ℕ
+words vs = numbers 4 vs
 
 -- "integers two's complement": the integer that 16 bits stand for
 unfoldable pub int16 : ℕ → ℤ

@@ -9,7 +9,7 @@ use lib.Seq.{take-at, drop-at}
 use Rattle.lent.specs.Number.{big, be32, words}
 use Rattle.lent.specs.Part.{part}
 use Rattle.lent.specs.Write.{write, zeros}
-use Rattle.lent.proofs.Numbers.{length-words, words-at, number-in, number-part, number-zeros}
+use Rattle.lent.proofs.Numbers.{length-numbers, numbers-at, number-in, number-part, number-zeros}
 use Rattle.lent.proofs.Parts.{part-in}
 use Rattle.lent.proofs.Writes.{length-zeros}
 use Rattle.paper.specs.declared.sizes.Sizes.{Sizes}
@@ -23,12 +23,12 @@ use Rattle.paper.proofs.Forms.{current-word, current-counter, current-t
 
 pub length-boot : (z : Sizes) → length (bootBytes z) ≡ 32
 unfolding bootBytes
-length-boot z = length-words (z .n ∷ z .d ∷ z .l ∷ z .m ∷ z .u ∷ z .counter ∷ z .kind ∷ 1 ∷ [])
+length-boot z = length-numbers 4 (z .n ∷ z .d ∷ z .l ∷ z .m ∷ z .u ∷ z .counter ∷ z .kind ∷ 1 ∷ [])
 
 -- what the bytes state, whatever follows them
 pub version-back : (z : Sizes) (rest : List ℕ) → versionOf (bootBytes z ++ rest) ≡ 1
 unfolding bootBytes
-version-back z rest = words-at (z .n ∷ z .d ∷ z .l ∷ z .m ∷ z .u ∷ z .counter ∷ z .kind ∷ 1 ∷ []) rest 7 (omega arith) (omega arith)
+version-back z rest = numbers-at 4 (z .n ∷ z .d ∷ z .l ∷ z .m ∷ z .u ∷ z .counter ∷ z .kind ∷ 1 ∷ []) rest 7 (omega arith) (omega arith)
 
 pub sizes-back : (z : Sizes) (rest : List ℕ) → Ranged z → z .counter < 4294967296 → z .version ≡ 1 → sizesOf (bootBytes z ++ rest) ≡ z
 unfolding bootBytes
@@ -38,13 +38,13 @@ sizes-back z rest r c v =
     let vs : List ℕ = z .n ∷ z .d ∷ z .l ∷ z .m ∷ z .u ∷ z .counter ∷ z .kind ∷ 1 ∷ [] in
     let s = r .shape in
     rw (
-      current-word _ g 0 0 e ∙ words-at vs rest 0 (omega arith) (omega arith),
-      current-word _ g 0 1 e ∙ words-at vs rest 1 (omega arith) (omega arith),
-      current-word _ g 0 2 e ∙ words-at vs rest 2 (omega arith) (omega arith),
-      current-word _ g 0 3 e ∙ words-at vs rest 3 (omega arith) (omega arith),
-      current-word _ g 0 4 e ∙ words-at vs rest 4 (omega arith) (omega arith),
-      current-counter g e ∙ words-at vs rest 5 (omega arith) c,
-      current-type g e ∙ words-at vs rest 6 (omega arith) (omega arith),
+      current-word _ g 0 0 e ∙ numbers-at 4 vs rest 0 (omega arith) (omega arith),
+      current-word _ g 0 1 e ∙ numbers-at 4 vs rest 1 (omega arith) (omega arith),
+      current-word _ g 0 2 e ∙ numbers-at 4 vs rest 2 (omega arith) (omega arith),
+      current-word _ g 0 3 e ∙ numbers-at 4 vs rest 3 (omega arith) (omega arith),
+      current-word _ g 0 4 e ∙ numbers-at 4 vs rest 4 (omega arith) (omega arith),
+      current-counter g e ∙ numbers-at 4 vs rest 5 (omega arith) c,
+      current-type g e ∙ numbers-at 4 vs rest 6 (omega arith) (omega arith),
       e,
       ← v,
     )
@@ -75,7 +75,7 @@ module _ (z : Sizes) (r : Run) (about : List ℕ) where
   head = words (r .first ∷ r .last ∷ [])
 
   length-head : length head ≡ 8
-  length-head = length-words (r .first ∷ r .last ∷ [])
+  length-head = length-numbers 4 (r .first ∷ r .last ∷ [])
 
   pub length-entry : length about ≡ 54 → 62 ≤ z .m → length (entryBytes z r about) ≡ z .m
   unfolding entryBytes
@@ -86,7 +86,7 @@ module _ (z : Sizes) (r : Run) (about : List ℕ) where
   entry-states h =
       let vs : List ℕ = r .first ∷ r .last ∷ [] in
       let rest : List ℕ = about ++ zeros (z .m - 62) in
-      rw (words-at vs rest 0 (omega arith) (h .first-fits), words-at vs rest 1 (omega arith) (h .last-fits))
+      rw (numbers-at 4 vs rest 0 (omega arith) (h .first-fits), numbers-at 4 vs rest 1 (omega arith) (h .last-fits))
 
   -- bytes 8 on, and bytes 8 to 61
   pub entry-rest : drop 8 (entryBytes z r about) ≡ about ++ zeros (z .m - 62)

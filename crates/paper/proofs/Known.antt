@@ -4,7 +4,7 @@ use native.Mathlib.Omega.{arith}
 use borrow.Author.Tests.{le-leb, lt-leb}
 use lib.Ieee.{Float, ofBits}
 use lib.ListN.{length}
-use Rattle.lent.specs.Number.{number, value, digit, bytes, words, int16, widened}
+use Rattle.lent.specs.Number.{number, value, digit, bytes, numbers, int16, widened}
 use Rattle.lent.specs.Lists.{table, every, those}
 use Rattle.lent.specs.Least.{least}
 use Rattle.lent.specs.Part.{placeIn}
@@ -67,7 +67,7 @@ answers =
     }
 
 pub boot : Boot
-unfolding number value digit bytes words table wordAt counterOf typeOf bootBytes
+unfolding number value digit bytes numbers table wordAt counterOf typeOf bootBytes
 boot =
     record {
       reads = refl;
@@ -87,7 +87,7 @@ oldBoots =
     }
 
 pub entries : Entries
-unfolding number value digit bytes words table int16 widened zeros wordAt kindOf magicOf positionOf versionOne fieldsOf entryBytes
+unfolding number value digit bytes numbers table int16 widened zeros wordAt kindOf magicOf positionOf versionOne fieldsOf entryBytes
 entries =
     record {
       fields = refl;
@@ -227,7 +227,7 @@ places =
     }
 
 pub agreeing : Agrees
-unfolding number value same wordAt counterOf typeOf shaped inRange table every dataFrom writesOf bootBytes words bytes digit zeros pad entryBytes write agrees scan13 scan15 file
+unfolding number value same wordAt counterOf typeOf shaped inRange table every dataFrom writesOf bootBytes numbers bytes digit zeros pad entryBytes write agrees scan13 scan15 file
 agreeing =
     record {
       yes = refl;
@@ -278,7 +278,7 @@ oldFiles =
     }
 
 pub standing : Stands
-unfolding number value same digit bytes words table zeros pad entryBytes stands scan13 scan15 file
+unfolding number value same digit bytes numbers table zeros pad entryBytes stands scan13 scan15 file
 standing =
     record {
       yes = refl;

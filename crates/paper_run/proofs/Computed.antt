@@ -1,7 +1,7 @@
 -- The paper's run, by computation.
 use mathlib.Core.Path.{refl}
 use lib.Ieee.{ofBits}
-use Rattle.lent.specs.Number.{number, value, digit, bytes, words, int16}
+use Rattle.lent.specs.Number.{number, value, digit, bytes, numbers, int16}
 use Rattle.lent.specs.Lists.{table, every, those}
 use Rattle.lent.specs.Least.{least}
 use Rattle.lent.specs.Write.{write, zeros, pad}
@@ -25,7 +25,7 @@ unfolding number value int16 table every exactly wholeFloat wholeOf ofBits lengt
 kept = record { first = refl; second = refl; third = refl; fourth = refl; fifth = refl }
 
 pub run : Run
-unfolding number value digit bytes words int16 table every those least write zeros pad same exactly wholeFloat wholeOf ofBits lengthOf isWhole sizeOf wordAt counterOf typeOf bootBytes shaped inRange empty inData badAt aboveAt shares sharer sharedAt openOf slotsOf versionOne entryBytes classesOf startsOf rule1 rule2 rule3 rule4 rule5 rule6 rising ruledOf readOf blankFile blankOf freeAt freePlace saveOf dataFrom writesOf agrees stepFile stepJob stands stepAnswer digits linesText listText preamble double scanOf file0 file1 file2 file3 file4 broken
+unfolding number value digit bytes numbers int16 table every those least write zeros pad same exactly wholeFloat wholeOf ofBits lengthOf isWhole sizeOf wordAt counterOf typeOf bootBytes shaped inRange empty inData badAt aboveAt shares sharer sharedAt openOf slotsOf versionOne entryBytes classesOf startsOf rule1 rule2 rule3 rule4 rule5 rule6 rising ruledOf readOf blankFile blankOf freeAt freePlace saveOf dataFrom writesOf agrees stepFile stepJob stands stepAnswer digits linesText listText preamble double scanOf file0 file1 file2 file3 file4 broken
 run =
     record {
       blanked = refl;

@@ -1,15 +1,15 @@
 -- Bytes set one after the other: words, and an entry.
 use Prim.Native.Nat.{ℕ, _+_, _-_, _*_, _≤_}
-use mathlib.Core.Path.{_≡_, refl, sym, _∙_, ap}
+use mathlib.Core.Path.{_≡_, sym, _∙_, ap}
 use mathlib.Core.Bool.{Bool, true, false, cond}
-use mathlib.Core.List.{List, [], _∷_, _++_, append-assoc, append-nil}
+use mathlib.Core.List.{List, [], _∷_, _++_, append-assoc}
 use native.Mathlib.Omega.{arith}
 use lib.ListN.{length, length-append}
-use Rattle.lent.specs.Number.{big, bytes, words}
+use Rattle.lent.specs.Number.{words}
 use Rattle.lent.specs.Part.{part}
 use Rattle.lent.specs.Same.{same}
 use Rattle.lent.specs.Write.{write, zeros, pad}
-use Rattle.lent.proofs.Numbers.{length-words}
+use Rattle.lent.proofs.Numbers.{length-numbers, numbers-append}
 use Rattle.lent.proofs.Parts.{length-part}
 use Rattle.lent.proofs.Writes.{write-then, write-all}
 use Rattle.paper.specs.declared.sizes.Sizes.{Sizes}
@@ -21,39 +21,20 @@ use Rattle.paper.specs.Entry.{entryBytes}
 use Rattle.paper.specs.Store.{runFrom, countOf, entryAfter}
 use Rattle.writes.specs.Inside.{frontOf}
 
-pub words-append : (vs ws : List ℕ) → words (vs ++ ws) ≡ words vs ++ words ws
-unfolding words
-words-append [] ws = refl
-words-append (v ∷ vs) ws = rw (words-append vs ws, append-assoc)
-
-word-one : (v : ℕ) → words (v ∷ []) ≡ bytes big 4 v
-unfolding words
-word-one v = append-nil (bytes big 4 v)
-
--- the first word, and the next one, as the calls that put them leave the run
-pub word-first : (f g : List ℕ) (at v : ℕ) → g ≡ write f at (bytes big 4 v) → g ≡ write f at (words (v ∷ []))
-word-first f g at v p = p ∙ ap (write f at) (sym (word-one v))
-
-pub word-next : (f g h : List ℕ) (at n : ℕ) (vs : List ℕ) (v : ℕ) → g ≡ write f at (words vs) → h ≡ write g n (bytes big 4 v) → at + 4 * length vs ≡ n → at ≤ length f
-    → h ≡ write f at (words (vs ++ (v ∷ [])))
-word-next f g h at n vs v p q e l =
-    write-then f g h at n (words vs) (bytes big 4 v) p q (omega (arith, length-words vs)) l
-    ∙ ap (λ (b : List ℕ). write f at (words vs ++ b)) (sym (word-one v)) ∙ ap (write f at) (sym (words-append vs (v ∷ [])))
-
 -- words that fill the run
 pub words-fill : (f g h : List ℕ) (vs ws : List ℕ) → g ≡ write f 0 (words vs) → h ≡ write g (4 * length vs) (words ws) → length f ≤ 4 * length vs + 4 * length ws
     → h ≡ words (vs ++ ws)
 words-fill f g h vs ws p q l =
-    write-then f g h 0 (4 * length vs) (words vs) (words ws) p q (omega (arith, length-words vs)) (omega arith)
-    ∙ write-all f (words vs ++ words ws) (simp length-append (omega (arith, length-words vs, length-words ws)))
-    ∙ sym (words-append vs ws)
+    write-then f g h 0 (4 * length vs) (words vs) (words ws) p q (omega (arith, length-numbers 4 vs)) (omega arith)
+    ∙ write-all f (words vs ++ words ws) (simp length-append (omega (arith, length-numbers 4 vs, length-numbers 4 ws)))
+    ∙ sym (numbers-append 4 vs ws)
 
 -- an entry's M bytes are its bytes 0 to 61, padded
 pub entry-pad : (z : Sizes) (r : Run) (about : List ℕ) → length about ≡ 54 → entryBytes z r about ≡ pad (z .m) (words (r .first ∷ r .last ∷ []) ++ about)
 unfolding entryBytes pad
 entry-pad z r about h =
     let w : List ℕ = words (r .first ∷ r .last ∷ []) in
-    let l : length (w ++ about) ≡ 62 = simp length-append (omega (arith, length-words (r .first ∷ r .last ∷ []))) in
+    let l : length (w ++ about) ≡ 62 = simp length-append (omega (arith, length-numbers 4 (r .first ∷ r .last ∷ []))) in
     rw l (sym (append-assoc w about (zeros (z .m - 62))))
 
 -- what a job writes as its slot's entry, from what code makes of it
@@ -62,7 +43,7 @@ entry-saved z j b s e h =
     let r : Run = runFrom (j .first) (countOf z j) in
     let w : List ℕ = words (r .first ∷ r .last ∷ []) in
     let l : length b ≡ length w + length (j .about) = ap length e ∙ length-append w (j .about) in
-    ap (pad (z .m)) e ∙ sym (entry-pad z r (j .about) (omega (arith, length-words (r .first ∷ r .last ∷ []))))
+    ap (pad (z .m)) e ∙ sym (entry-pad z r (j .about) (omega (arith, length-numbers 4 (r .first ∷ r .last ∷ []))))
     ∙ ap (λ (t : Bool). cond t (entryBytes z r (j .about)) (zeros (z .m))) (sym s)
 
 entry-cleared : (f : List ℕ) (z : Sizes) (j : Job) (b : List ℕ) → j .saves ≡ false → b ≡ entryAt f z (j .slot) → homeOf z (j .slot) + z .m ≤ length f
