@@ -28,6 +28,27 @@ abbrev pub bits16 : ℤ → ℕ
 bits16 (pos n) = n
 bits16 (negsuc n) = 65535 - n
 
+-- the same entry but for the magic number
+abbrev pub withMagic : ℤ → Entry → Entry
+withMagic magic e =
+    record {
+      first = e .first;
+      last = e .last;
+      horizontal = e .horizontal;
+      vertical = e .vertical;
+      source = e .source;
+      scan = e .scan;
+      field4 = e .field4;
+      field8 = e .field8;
+      lst = e .lst;
+      date = e .date;
+      mode = e .mode;
+      number = e .number;
+      position = e .position;
+      magic = magic;
+      kind = e .kind;
+    }
+
 -- the table's bytes 8 to 59, from the fields, in its order; and what follows them
 abbrev pub middleBytes : Entry → List ℕ → List ℕ
 middleBytes e rest =
