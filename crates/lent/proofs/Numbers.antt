@@ -13,8 +13,8 @@ use Rattle.lent.specs.Number.{Order, big, little, byteOf, value, digit, 
 use Rattle.lent.specs.Part.{part, Alike}
 use Rattle.lent.specs.Write.{write, zeros, pad}
 use Rattle.lent.proofs.Lists.{lt-or-ge, length-table, table-at}
-use Rattle.lent.proofs.Writes.{write-in, write-then, getD-zeros, pad-at}
-use Rattle.lent.proofs.Parts.{length-part, part-at}
+use Rattle.lent.proofs.Writes.{write-in, write-then, write-all, getD-zeros, pad-at}
+use Rattle.lent.proofs.Parts.{length-part, part-at, part-none, part-join}
 
 -- ---- digits
 
@@ -162,6 +162,18 @@ pub number-four : (s : List ℕ) (at : ℕ)
 unfolding number value
 number-four s at = simp add-zero (omega arith)
 
+-- of bytes below 256
+module _ (s : List ℕ) (low : (i : ℕ) → getD s i 0 < 256) (at : ℕ) where
+  pub two-small : number big 2 s at < 65536
+  two-small = let a = low at in let b = low (at + 1) in omega (arith, number-two s at)
+
+  pub four-small : number big 4 s at < 4294967296
+  four-small = let a = low at in let b = low (at + 1) in let c = low (at + 2) in let d = low (at + 3) in omega (arith, number-four s at)
+
+pub bytes-two : (v a b : ℕ) → a ≡ v / 256 % 256 → b ≡ v % 256 → a ∷ b ∷ [] ≡ bytes big 2 v
+unfolding bytes table digit
+bytes-two v a b p q = rw (p, q, div-one v)
+
 pub bytes-four : (v a b c d : ℕ) → a ≡ v / 16777216 % 256 → b ≡ v / 65536 % 256 → c ≡ v / 256 % 256 → d ≡ v % 256 → a ∷ b ∷ c ∷ d ∷ [] ≡ bytes big 4 v
 unfolding bytes table digit
 bytes-four v a b c d p q r s = rw (p, q, r, s, div-one v)
@@ -201,3 +213,27 @@ module _ (n : ℕ) where
   number-next f g h at e vs v p q k l =
       write-then f g h at e (numbers n vs) (bytes big n v) p q (ap (λ (x : ℕ). at + x) (length-numbers vs) ∙ k) l
       ∙ ap (λ (b : List ℕ). write f at (numbers n vs ++ b)) (sym (number-one v)) ∙ ap (write f at) (sym (numbers-append vs (v ∷ [])))
+
+  -- and back, of numbers that stand in a run of bytes below 256
+  pub numbers-back : (vs s : List ℕ) (at : ℕ) → ((i : ℕ) → i < length vs → getD vs i 0 ≡ number big n s (at + n * i)) → at + n * length vs ≤ length s
+      → ((i : ℕ) → getD s i 0 < 256) → numbers n vs ≡ part at (at + n * length vs) s
+  unfolding numbers
+  numbers-back [] s at h l low = sym (part-none at (at + n * 0) s (omega (arith, mul-zero n)))
+  numbers-back (v ∷ vs) s at h l low =
+      let m = mul-suc n (length vs) in
+      let k : length (v ∷ vs) ≡ suc (length vs) = refl in
+      let e : v ≡ number big n s at = rw (mul-zero n, add-zero) at (h 0 (omega arith)) in
+      let o : at + n + n * length vs ≡ at + n * suc (length vs) = omega arith in
+      let d : (i : ℕ) → at + n * suc i ≡ at + n + n * i = λ i. omega (arith, mul-suc n i) in
+      ap (λ (x : ℕ). bytes big n x ++ numbers n vs) e ∙ ap (λ (x : List ℕ). x ++ numbers n vs) (bytes-number big n s at (omega arith) low)
+      ∙ ap (λ (x : List ℕ). part at (at + n) s ++ x)
+      (numbers-back vs s (at + n) (λ i q. h (suc i) (omega arith) ∙ ap (number big n s) (d i)) (omega arith) low ∙ ap (λ (x : ℕ). part (at + n) x s) o)
+      ∙ part-join at (at + n) (at + n * suc (length vs)) s (omega arith) (omega arith) (omega arith)
+
+  -- numbers that fill the run
+  pub numbers-fill : (f g h : List ℕ) (vs ws : List ℕ) → g ≡ write f 0 (numbers n vs) → h ≡ write g (n * length vs) (numbers n ws)
+      → length f ≤ n * length vs + n * length ws → h ≡ numbers n (vs ++ ws)
+  numbers-fill f g h vs ws p q l =
+      write-then f g h 0 (n * length vs) (numbers n vs) (numbers n ws) p q (omega (arith, length-numbers vs)) (omega arith)
+      ∙ write-all f (numbers n vs ++ numbers n ws) (simp length-append (omega (arith, length-numbers vs, length-numbers ws)))
+      ∙ sym (numbers-append vs ws)

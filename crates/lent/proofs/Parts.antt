@@ -5,14 +5,14 @@ use mathlib.Core.List.{List, [], _++_}
 use mathlib.Core.Logic.{⊎-elim}
 use native.Mathlib.Omega.{arith}
 use native.Mathlib.Nat.{add-assoc, add-sub-cancel-left, sub-eq-zero-of-le}
-use lib.ListN.{length, take, drop, getD, length-take, length-drop, length-append, drop-of-length-le, List·getD-append}
+use lib.ListN.{length, take, drop, getD, length-take, length-drop, length-append, drop-of-length-le, List·getD-append, List·getD-eq-default}
 use lib.Seq.{length-take-le, getD-take, getD-drop, take-nil, take-all, drop-at, take-append-seam, getD-append-add, ext-getD}
 use borrow.Author.Tests.{lt-ltb, le-ltb}
 use lib.Dec.{ltb}
 use Rattle.lent.specs.Part.{part, placeIn, bytesOn, Alike}
-use Rattle.lent.specs.Write.{write}
+use Rattle.lent.specs.Write.{write, pad}
 use Rattle.lent.proofs.Lists.{lt-or-ge, also-false}
-use Rattle.lent.proofs.Writes.{write-before, write-after}
+use Rattle.lent.proofs.Writes.{write-before, write-after, length-pad, pad-at}
 
 -- ---- a part
 
@@ -86,6 +86,21 @@ part-join a b c s h k m =
     ap (λ (n : ℕ). getD (part a b s ++ part b c s) n 0) e ∙ getD-append-add (part a b s) (part b c s) (i - (b - a)) 0
     ∙ part-at b c s (i - (b - a)) (omega arith) ∙ ap (λ (n : ℕ). getD s n 0) o ∙ sym (part-at a c s i (omega arith)))
     (lt-or-ge i (b - a)))
+
+-- a part, and zeros after it where the run has them
+pub part-pad : (n a e : ℕ) (s xs : List ℕ) → xs ≡ part a (a + e) s → e ≤ n → a + n ≤ length s → ((i : ℕ) → e ≤ i → i < n → getD s (a + i) 0 ≡ 0)
+    → pad n xs ≡ part a (a + n) s
+part-pad n a e s xs p h k z =
+    let l : length xs ≡ e = ap length p ∙ length-part a (a + e) s (omega arith) ∙ omega arith in
+    let m : length (part a (a + n) s) ≡ n = length-part a (a + n) s k ∙ omega arith in
+    let q = length-pad n xs (omega arith) in
+    ext-getD 0 (pad n xs) (part a (a + n) s) (q ∙ sym m)
+    (λ i b.
+    let d : i < a + n - a = omega arith in
+    pad-at n xs i
+    ∙ ⊎-elim (λ (c : i < e). ap (λ (x : List ℕ). getD x i 0) p ∙ part-at a (a + e) s i (omega arith))
+    (λ (c : e ≤ i). List·getD-eq-default xs 0 (omega arith) ∙ sym (z i c (omega arith))) (lt-or-ge i e)
+    ∙ sym (part-at a (a + n) s i d))
 
 -- ---- the same bytes from a up to b
 

@@ -43,6 +43,15 @@ pub fn zero_to(file: &mut [u8], at: usize, n: usize)
     zero(&mut file[at..e]);
 }
 
+// A 16-bit number, the highest byte first.
+pub fn put16(file: &mut [u8], at: usize, x: u16)
+    requires { ⌜ at + 2 ≤ length (now file) ⌝ }
+    ensures { λ _. ⌜ now (file .exit) ≡ write (now (file .entry)) at (bytes big 2 x) ⌝ }
+{
+    let b = [(x / 256 % 256) as u8, (x % 256) as u8];
+    copy_to(file, at, &b);
+}
+
 // A 32-bit number, the highest byte first.
 pub fn put32(file: &mut [u8], at: usize, x: u32)
     requires { ⌜ at + 4 ≤ length (now file) ⌝ }

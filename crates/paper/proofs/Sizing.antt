@@ -26,6 +26,9 @@ index-small z h =
     let p : (z .n - 1) * z .l ≤ 512 * 4096 = mul-le-mul a (h .l-high) in
     p
 
+pub head-small : (z : Sizes) → Shaped z → z .n * z .l ≤ 2101248
+head-small z h = mul-le-mul {n₂ = 513} {m₂ = 4096} (h .n-high) (h .l-high)
+
 pub slot-small : (z : Sizes) (s : ℕ) → Slotted z s → (s - 1) * z .m ≤ 16777216
 slot-small z s h =
     let a : s - 1 ≤ 4096 = omega arith in

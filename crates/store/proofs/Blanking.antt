@@ -4,7 +4,6 @@ use mathlib.Core.Path.{_≡_}
 use mathlib.Core.Bool.{true, false}
 use mathlib.Core.List.{List}
 use native.Mathlib.Omega.{arith}
-use native.Mathlib.Nat.{mul-le-mul}
 use borrow.Author.Tests.{leb-true}
 use lib.ListN.{length}
 use Rattle.lent.specs.Write.{write, pad}
@@ -16,13 +15,9 @@ use Rattle.paper.specs.declared.answer.Taken.the-variants.{Accepted, Refused}
 use Rattle.paper.specs.Sizes.{bootBytes, Shaped}
 use Rattle.paper.specs.Store.{blankTests, blankSizes, blankOf, blankFile}
 use Rattle.paper.proofs.Opening.{shaped-facts}
-use Rattle.paper.proofs.Sizing.{head-long}
+use Rattle.paper.proofs.Sizing.{head-small, head-long}
 use Rattle.store.specs.Blank.{blankFits}
 use Rattle.writes.specs.Inside.{Narrow}
-
--- how many bytes N records are
-pub head-small : (z : Sizes) → Shaped z → z .n * z .l ≤ 2101248
-head-small z h = mul-le-mul {n₂ = 513} {m₂ = 4096} (h .n-high) (h .l-high)
 
 -- what fits
 pub record Fitting (z : Sizes) (len : ℕ) : Type 0 where

@@ -1,5 +1,5 @@
 -- Bytes set one after the other: words, and an entry.
-use Prim.Native.Nat.{ℕ, _+_, _-_, _*_, _≤_}
+use Prim.Native.Nat.{ℕ, _+_, _-_, _≤_}
 use mathlib.Core.Path.{_≡_, sym, _∙_, ap}
 use mathlib.Core.Bool.{Bool, true, false, cond}
 use mathlib.Core.List.{List, [], _∷_, _++_, append-assoc}
@@ -8,10 +8,9 @@ use lib.ListN.{length, length-append}
 use Rattle.lent.specs.Number.{words}
 use Rattle.lent.specs.Part.{part}
 use Rattle.lent.specs.Same.{same}
-use Rattle.lent.specs.Write.{write, zeros, pad}
-use Rattle.lent.proofs.Numbers.{length-numbers, numbers-append}
+use Rattle.lent.specs.Write.{zeros, pad}
+use Rattle.lent.proofs.Numbers.{length-numbers}
 use Rattle.lent.proofs.Parts.{length-part}
-use Rattle.lent.proofs.Writes.{write-then, write-all}
 use Rattle.paper.specs.declared.sizes.Sizes.{Sizes}
 use Rattle.paper.specs.declared.sizes.Run.{Run}
 use Rattle.paper.specs.declared.job.Job.{Job}
@@ -20,14 +19,6 @@ use Rattle.paper.specs.Index.{entryAt}
 use Rattle.paper.specs.Entry.{entryBytes}
 use Rattle.paper.specs.Store.{runFrom, countOf, entryAfter}
 use Rattle.writes.specs.Inside.{frontOf}
-
--- words that fill the run
-pub words-fill : (f g h : List ℕ) (vs ws : List ℕ) → g ≡ write f 0 (words vs) → h ≡ write g (4 * length vs) (words ws) → length f ≤ 4 * length vs + 4 * length ws
-    → h ≡ words (vs ++ ws)
-words-fill f g h vs ws p q l =
-    write-then f g h 0 (4 * length vs) (words vs) (words ws) p q (omega (arith, length-numbers 4 vs)) (omega arith)
-    ∙ write-all f (words vs ++ words ws) (simp length-append (omega (arith, length-numbers 4 vs, length-numbers 4 ws)))
-    ∙ sym (numbers-append 4 vs ws)
 
 -- an entry's M bytes are its bytes 0 to 61, padded
 pub entry-pad : (z : Sizes) (r : Run) (about : List ℕ) → length about ≡ 54 → entryBytes z r about ≡ pad (z .m) (words (r .first ∷ r .last ∷ []) ++ about)

@@ -1,6 +1,6 @@
 use Prim.Native.Nat.{_*_}
 use Rattle.paper.proofs.Opening.{shaped-facts}
-use Rattle.store.proofs.Blanking.{head-small}
+use Rattle.paper.proofs.Sizing.{head-small}
 use mathlib.Core.Path.{sym, _∙_}
 use native.Mathlib.Omega.{arith}
 use Rattle.paper.specs.Store.{blankTests}
