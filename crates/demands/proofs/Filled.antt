@@ -1,4 +1,4 @@
--- An accepted blank opens, and keeps a scan; an old file with a scan is read.
+-- An accepted blank opens, and keeps a scan; an old file with a scan is read; a file of each form is converted to the other.
 use Prim.Native.Nat.{ℕ, _+_, _-_, _*_, _/_, _≤_, _<_}
 use mathlib.Core.Path.{_≡_, refl, sym, _∙_, ap, subst}
 use mathlib.Core.Bool.{true}
@@ -8,10 +8,10 @@ use native.Mathlib.Omega.{arith}
 use native.Mathlib.Nat.{zero-add, le-div-iff-mul-le, div-lt-iff-lt-mul, mul-le-mul-right}
 use lib.ListN.{length, getD, List·getD-eq-default}
 use lib.Ieee.{ofBits}
-use Rattle.lent.specs.Number.{number, value, int16, widened}
+use Rattle.lent.specs.Number.{number, value, digit, bytes, numbers, int16, widened}
 use Rattle.lent.specs.Lists.{table, every, those}
 use Rattle.lent.specs.Least.{least}
-use Rattle.lent.specs.Write.{write, pad}
+use Rattle.lent.specs.Write.{write, zeros, pad}
 use Rattle.lent.proofs.Writes.{length-pad, pad-at, write-in, write-after}
 use Rattle.whole.specs.Number.{exactly, wholeFloat, wholeOf}
 use Rattle.whole.specs.Length.{lengthOf, isWhole, sizeOf}
@@ -27,6 +27,7 @@ use Rattle.paper.specs.Entry.{kindOf, magicOf, positionOf, versionOne, fieldsOf
 use Rattle.paper.specs.Scan.{classesOf, startsOf, rule1, rule2, rule3, rule4, rule5, rule6, rising, headlen, datalen, ruledOf}
 use Rattle.paper.specs.Store.{blankSizes, blankOf, blankFile, recordsFor, freePlace, saveOf}
 use Rattle.paper.specs.Look.{foundOf, showOf, readOf, InIndex}
+use Rattle.paper.specs.Convert.{bootAs, scanAs, entryAs, entriesAs, recordsAs, otherMagic, wideRun, convertOf, convertedOut, joined}
 use Rattle.paper.proofs.Sizing.{head-long}
 use Rattle.paper.proofs.Opening.{sound-open}
 use Rattle.paper.proofs.Encoding.{length-boot}
@@ -34,7 +35,7 @@ use Rattle.paper.proofs.Begins.{SaveTaken, taken-save}
 use Rattle.paper.proofs.Blank.{blank-facts, facts-blank, blank-file, blank-sound, blank-length, first-place}
 use Rattle.demands.specs.History.{save, takes, isAccepted, slotOf, stateAfter, answerAfter}
 use Rattle.demands.specs.Truth.{ReadsBack}
-use Rattle.demands.specs.NotEmpty.{Blanks, BlankOpens, BlankWrites, leastScan, Kept, BlankKeeps, oldFile, OldReads}
+use Rattle.demands.specs.NotEmpty.{Blanks, BlankOpens, BlankWrites, leastScan, Kept, BlankKeeps, oldFile, OldReads, currentFile, BothWays}
 use Rattle.demands.proofs.Survived.{confirms-each}
 use Rattle.demands.proofs.True.{run-reads}
 
@@ -166,4 +167,14 @@ old-reads =
       magic = refl;
       position = refl;
       not-saved = refl;
+    }
+
+pub both-ways : BothWays
+unfolding number value widened digit bytes numbers table zeros pad least write wordAt counterOf typeOf bootBytes shaped inRange empty inData badAt aboveAt shares sharer sharedAt magicOf positionOf versionOne otherMagic wideRun bootAs scanAs entryAs entriesAs recordsAs convertOf convertedOut joined leastScan oldFile currentFile
+both-ways =
+    record {
+      to-current = refl;
+      is-current = refl;
+      to-old = refl;
+      is-old = refl;
     }

@@ -13,4 +13,5 @@ pub mod Telling
 pub mod Unchanged
 pub mod Filled
 pub mod Old
+pub mod Converted
 pub mod Single

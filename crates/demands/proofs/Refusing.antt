@@ -4,13 +4,13 @@ use mathlib.Core.Path.{_≡_, refl, sym, _∙_, ap, subst}
 use mathlib.Core.Bool.{Bool, true, false, not, cond}
 use mathlib.Core.List.{List, [], _∷_, _++_}
 use native.Mathlib.Omega.{arith}
-use borrow.Author.Tests.{ltb-true, ltb-false, leb-true, eqb-true, eqb-false, lt-ltb, le-leb, not-true, not-false}
+use borrow.Author.Tests.{ltb-true, ltb-false, leb-true, eqb-true, eqb-false, lt-ltb, le-ltb, le-leb, not-true, not-false}
 use lib.Dec.{ltb, leb, eqb}
 use lib.ListN.{length}
 use Rattle.lent.specs.Checks.{Check, check, answer, judge}
 use Rattle.lent.specs.Lists.{all}
-use Rattle.lent.proofs.Lists.{true≢false, all-true, true-all}
-use Rattle.lent.proofs.Leasts.{lowest-least, none-least}
+use Rattle.lent.proofs.Lists.{true≢false, not-so, all-true, true-all}
+use Rattle.lent.proofs.Leasts.{lowest-least, none-least, none-test, test-none}
 use Rattle.lent.proofs.Checks.{judge-append, judge-fires}
 use Rattle.paper.specs.declared.sizes.Sizes.{Sizes}
 use Rattle.paper.specs.declared.refusal.Refusal.{Refusal}
@@ -35,6 +35,8 @@ use Rattle.paper.specs.Scan.{startsOf, classesOf, headlen, datalen, classIn, ru
 use Rattle.paper.specs.Look.{listOf, listedOf, noSlot, heldChecks, slotChecks, otherScan, readChecks, foundOf, showOf, readOf, InIndex}
 use Rattle.paper.specs.Store.{blankSizes, blankTests, blankChecks, blankOf, recordsFor, freeAt, freePlace, emptySlot, refused, placeFor, keepSlot, reasonOf, scanChecks, saveOf, keepOf, clearOf, countOf, writesOf}
 use Rattle.paper.specs.Step.{agrees, hasLeft, wroteOf, stands, confirmed, confirmOf, stepAnswer, Agreeing, Standing}
+use Rattle.paper.specs.Convert.{otherMagic, wideRun, convertChecks, convertOf}
+use Rattle.paper.proofs.Converting.{magic-facts, facts-magic, narrow-facts, facts-narrow, going-facts, facts-going}
 use Rattle.paper.proofs.Forms.{one-facts, facts-one}
 use Rattle.paper.proofs.Opening.{shaped-facts, facts-shaped, empty-facts, facts-empty, full-facts, facts-full, then-refused, then-opens, open-reads}
 use Rattle.paper.proofs.Rules.{keeps-lengths}
@@ -43,7 +45,7 @@ use Rattle.paper.proofs.Writes.{length-writes, some-record}
 use Rattle.paper.proofs.Agreement.{agreed, agreeing, stood, standing}
 use Rattle.paper.proofs.Free.{FreeAt, facts-free, place-free, free-nobody}
 use Rattle.paper.proofs.Begins.{slot-facts, facts-slot}
-use Rattle.demands.specs.Causes.{Row, end, asks, only-if, OpenRow, HeldRow, SlotRow, RuleRow, VersionOne, ReadRow, FreeRun, Place, ScanRow, Vacant, StepRow, BlankRow}
+use Rattle.demands.specs.Causes.{Row, end, asks, only-if, OpenRow, HeldRow, SlotRow, RuleRow, VersionOne, ReadRow, FreeRun, Place, ScanRow, Vacant, StepRow, ConvertRow, BlankRow}
 use Rattle.demands.specs.Truth.{Told, RefusedExactly}
 use Rattle.demands.proofs.Ordered.{Meets, one, each, nothing, asked-so, not-asked, told, open-row, change-row}
 
@@ -157,6 +159,31 @@ blank-row f n l m =
     record { shape = shaped-facts z (a .0); fits = leb-true _ _ (a .1 .0) })
     (λ h. nothing)
 
+-- 17 of a conversion, then 19's causes
+convert-row : (v : ℕ) (f out : List ℕ) → Meets (convertChecks v f out) (ConvertRow v f out)
+convert-row v f out =
+    let z : Sizes = sizesOf f in
+    open-row f
+    (λ S.
+    one (λ t h. omega (arith, ltb-true (length out) (z .n * z .l) t)) (λ t. ltb-false (length out) (z .n * z .l) t)
+    (λ fits.
+    one (λ t h. h (eqb-true (z .version) v t)) (λ t. eqb-false (z .version) v t)
+    (λ other.
+    one (λ t h. h (eqb-true (z .kind) 1 t)) (λ t. eqb-false (z .kind) 1 t)
+    (λ kind.
+    one
+    (λ t h. true≢false t (none-test (otherMagic f z) (z .u) (λ s a b m. true≢false m (facts-magic f z s (h s a b)))))
+    (λ t s a b. magic-facts f z s (not-so (test-none (otherMagic f z) (z .u) t s a b)))
+    (λ magics.
+    one (λ t h. true≢false t (facts-going v _ (λ e. le-ltb 32767 (z .d) (h e)))) (λ t e. ltb-false 32767 (z .d) (going-facts v _ t e))
+    (λ few.
+    one (λ t h. true≢false t (facts-going v _ (λ e. le-ltb 65535 (z .counter) (h e)))) (λ t e. ltb-false 65535 (z .counter) (going-facts v _ t e))
+    (λ counted.
+    one
+    (λ t h. true≢false t (facts-going v _ (λ e. none-test (wideRun (runOf f z)) (z .u) (λ s a b m. true≢false m (facts-narrow (runOf f z) s (h e s a b))))))
+    (λ t e s a b. narrow-facts (runOf f z) s (not-so (test-none (wideRun (runOf f z)) (z .u) (going-facts v _ t e) s a b)))
+    (λ narrow. nothing))))))))
+
 -- ---- a scan's classes and data
 
 ruled-told : (s : List ℕ) (k : ℕ → ℕ → Span) → ((a b : ℕ) → spanSays (k a b) .number ≡ 0) → Told (spanSays (ofRuled k (ruledOf s false))) (RuleRow s false end)
@@ -250,7 +277,7 @@ module _ (f scan : List ℕ) (j : Job) where
 -- ---- every call
 
 pub refused-exactly : RefusedExactly
-unfolding openOf listedOf foundOf showOf readOf classOf dataOf saveOf keepOf clearOf stepAnswer blankOf
+unfolding openOf listedOf foundOf showOf readOf classOf dataOf saveOf keepOf clearOf stepAnswer blankOf convertOf
 refused-exactly =
     record {
       open-file = λ f. told openedSays opened.Refused (opened.Opens (sizesOf f)) (λ r. refl) refl (open-row f (λ S. nothing));
@@ -269,4 +296,5 @@ refused-exactly =
       clear-slot = λ f slot. told (λ (b : Begun). takenSays (b .answer)) refused _ (λ r. refl) refl (change-row f (λ S. held-row f slot nothing));
       step-job = λ f scan j. step-told f scan j (agrees f scan j) (hasLeft (sizesOf f) scan j) refl refl;
       blank = λ f n l m. told takenSays taken.Refused taken.Accepted (λ r. refl) refl (blank-row f n l m);
+      convert = λ v f out. told takenSays taken.Refused taken.Accepted (λ r. refl) refl (convert-row v f out);
     }

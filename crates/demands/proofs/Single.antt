@@ -58,4 +58,5 @@ one-outcome =
           ap (λ (t : Step). record { answer = t; job = a .answer .job }) e ∙ ap (λ (k : Job). record { answer = b .answer .answer; job = k }) h in
           lent-same a b s (p .2 ∙ sym (q .2));
       blank = λ f n l m a b p q. lent-same a b (alike takenSays taken-only _ (a .answer) (b .answer) (p .0) (q .0)) (p .1 ∙ sym (q .1));
+      convert = λ v f out a b p q. lent-same a b (alike takenSays taken-only _ (a .answer) (b .answer) (p .0) (q .0)) (p .1 ∙ sym (q .1));
     }

@@ -10,7 +10,7 @@ use lib.ListN.{length}
 use Rattle.lent.specs.Checks.{Check, check, Fired, clear, fires, fired, answer, judge}
 use Rattle.lent.proofs.Checks.{judge-fires, judge-refused}
 use Rattle.paper.specs.declared.refusal.Refusal.{Refusal}
-use Rattle.paper.specs.declared.refusal.Refusal.the-variants.{TooShort, OldForm, UnknownForm, OutOfRange, PastEnd, BadEntry, AboveUse, SharedRecord, NoSuchSlot, EmptySlot, BadScan, NoEmptySlot, NoRoom, Disagrees, Differs, BadBlank, TooSmall, NotVersionOne}
+use Rattle.paper.specs.declared.refusal.Refusal.the-variants.{TooShort, OldForm, UnknownForm, OutOfRange, PastEnd, BadEntry, AboveUse, SharedRecord, NoSuchSlot, EmptySlot, BadScan, NoEmptySlot, NoRoom, Disagrees, Differs, BadBlank, TooSmall, NotVersionOne, NotConvertible}
 use Rattle.paper.specs.declared.answer.Listed.the-variants as listed
 use Rattle.paper.specs.declared.answer.Taken.{Taken}
 use Rattle.paper.specs.declared.answer.Taken.the-variants as taken
@@ -28,6 +28,7 @@ use Rattle.paper.specs.Store.{blankSizes, blankChecks, blankOf, blankFile, refu
 use Rattle.paper.specs.Step.{agrees, hasLeft, writeAt, confirmOf, stepFile, stepJob, stepAnswer}
 use Rattle.paper.proofs.Writes.{length-writes}
 use Rattle.paper.proofs.Agreement.{disagreeing, file-refused, job-refused, answer-refused, step-past, job-past}
+use Rattle.paper.specs.Convert.{convertChecks, convertOf, convertedOut}
 use Rattle.demands.specs.Untouched.{ZeroJob, ZeroEntry, Untouched}
 
 -- ---- which check fired
@@ -95,7 +96,7 @@ step-kept f scan j r true false p q e =
     omega (arith, ltb-false (j .written) (length (writesOf (sizesOf f) j scan)) q, length-writes (sizesOf f) j scan) in
     (step-past f scan j (sizesOf f) p refl h, job-past f scan j (sizesOf f) p refl h)
 
-numbered : (r : Refusal) → (1 ≤ numberOf r) × (numberOf r ≤ 18)
+numbered : (r : Refusal) → (1 ≤ numberOf r) × (numberOf r ≤ 19)
 numbered TooShort = (omega arith, omega arith)
 numbered OldForm = (omega arith, omega arith)
 numbered UnknownForm = (omega arith, omega arith)
@@ -114,15 +115,19 @@ numbered Differs = (omega arith, omega arith)
 numbered BadBlank = (omega arith, omega arith)
 numbered TooSmall = (omega arith, omega arith)
 numbered NotVersionOne = (omega arith, omega arith)
+numbered NotConvertible = (omega arith, omega arith)
 
 pub untouched : Untouched
-unfolding blankOf blankFile listedOf listedOut foundOf saveOf keepOf clearOf stepAnswer
+unfolding convertOf convertedOut blankOf blankFile listedOf listedOut foundOf saveOf keepOf clearOf stepAnswer
 untouched =
     record {
       blank = λ f n l m r e.
           judge-fires (λ (r : Refusal). f) (blankChecks f (blankSizes n l m)) _ r
           (taken-fires taken.Refused (λ x. x) taken.Accepted (blankChecks f (blankSizes n l m)) (λ q. refl) refl r e);
       list = λ f out r e. judge-fires (λ (r : Refusal). out) (listChecks f out) _ r (listed-fires (listChecks f out) (length (listOf f)) r e);
+      convert = λ v f out r e.
+          judge-fires (λ (r : Refusal). out) (convertChecks v f out) _ r
+          (taken-fires taken.Refused (λ x. x) taken.Accepted (convertChecks v f out) (λ q. refl) refl r e);
       step-job = λ f scan j r e. step-kept f scan j r (agrees f scan j) (hasLeft (sizesOf f) scan j) refl refl e;
       save-scan = λ f slot scan about r e.
           begun-none (changeChecks f ++ (noSlot (sizesOf f) slot ∷ scanChecks f scan)) (saveJob f slot scan about) r e;

@@ -8,7 +8,7 @@ use Rattle.lent.specs.Number.{be16}
 use Rattle.paper.specs.declared.sizes.Sizes.{Sizes}
 use Rattle.paper.specs.declared.sizes.Run.{Run}
 use Rattle.paper.specs.declared.refusal.Refusal.{Refusal}
-use Rattle.paper.specs.declared.refusal.Refusal.the-variants.{TooShort, OldForm, UnknownForm, OutOfRange, PastEnd, BadEntry, AboveUse, SharedRecord, NoSuchSlot, EmptySlot, BadScan, NoEmptySlot, NoRoom, Disagrees, Differs, BadBlank, TooSmall, NotVersionOne}
+use Rattle.paper.specs.declared.refusal.Refusal.the-variants.{TooShort, OldForm, UnknownForm, OutOfRange, PastEnd, BadEntry, AboveUse, SharedRecord, NoSuchSlot, EmptySlot, BadScan, NoEmptySlot, NoRoom, Disagrees, Differs, BadBlank, TooSmall, NotVersionOne, NotConvertible}
 use Rattle.paper.specs.declared.job.Job.{Job}
 use Rattle.paper.specs.Sizes.{sizesOf, versionOf, capacityOf, homeOf, roomOf, bytesOf, Ranged}
 use Rattle.paper.specs.Index.{runOf, Full, shownOf, Lies}
@@ -149,6 +149,25 @@ abbrev pub StepRow : List ℕ → List ℕ → Job → Row
 StepRow f scan j =
     asks (Agreeing f scan j (sizesOf f)) Disagrees
     (only-if (j .written ≡ countOf (sizesOf f) j + 2) (OpenRow f (asks (Standing f scan j (sizesOf f)) Differs end)))
+
+-- 02, 2026-03: "open's own, then 17 for a second buffer under N x L bytes, then 19 where a file is already in the wanted form, is of type 1, has another magic, or
+-- has D, a first or a last above 32,767 or a counter above 65,535 when going old"
+abbrev pub EveryMagic : List ℕ → Type 0
+EveryMagic f = (s : ℕ) → 1 ≤ s → s ≤ sizesOf f .u → Full (runOf f (sizesOf f) s) → VersionOne f s
+
+abbrev pub EveryNarrow : List ℕ → Type 0
+EveryNarrow f = (s : ℕ) → 1 ≤ s → s ≤ sizesOf f .u → (runOf f (sizesOf f) s .first ≤ 32767) × (runOf f (sizesOf f) s .last ≤ 32767)
+
+abbrev pub FormRow : ℕ → List ℕ → Row
+FormRow v f =
+    asks (versionOf f ≡ v → ⊥) NotConvertible
+    (asks (sizesOf f .kind ≡ 1 → ⊥) NotConvertible
+    (asks (EveryMagic f) NotConvertible
+    (asks (v ≡ 0 → sizesOf f .d ≤ 32767) NotConvertible
+    (asks (v ≡ 0 → sizesOf f .counter ≤ 65535) NotConvertible (asks (v ≡ 0 → EveryNarrow f) NotConvertible end)))))
+
+abbrev pub ConvertRow : ℕ → List ℕ → List ℕ → Row
+ConvertRow v f out = OpenRow f (asks (sizesOf f .n * sizesOf f .l ≤ length out) TooSmall (FormRow v f))
 
 -- 16
 abbrev pub BlankRow : List ℕ → ℕ → ℕ → ℕ → Row

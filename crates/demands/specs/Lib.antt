@@ -9,4 +9,5 @@ pub mod Said
 pub mod Untouched
 pub mod NotEmpty
 pub mod Old
+pub mod Convert
 pub mod OneOutcome

@@ -1,5 +1,5 @@
--- Not empty: there are files that open, a scan that is accepted, confirmed and read back, and an old file with a scan that is read. A store that refuses
--- everything keeps no promise here.
+-- Not empty: there are files that open, a scan that is accepted, confirmed and read back, an old file with a scan that is read, and a file of each form that is
+-- converted to the other. A store that refuses everything keeps no promise here.
 use Prim.Native.Nat.{ℕ, _+_, _*_, _≤_, _<_}
 use mathlib.Core.Path.{_≡_}
 use mathlib.Core.Bool.{true, false}
@@ -16,7 +16,9 @@ use Rattle.paper.specs.Scan.{partOf}
 use Rattle.paper.specs.Look.{listOf, foundOf, showOf, readOf}
 use Rattle.paper.specs.Store.{blankSizes, blankOf, blankFile}
 use Rattle.demands.specs.History.{save, takes, stateAfter, answerAfter}
+use Rattle.paper.specs.Convert.{convertOf}
 use Rattle.demands.specs.Truth.{ReadsBack}
+use Rattle.demands.specs.Convert.{converted}
 
 -- Sizes of the right shape that fit what is lent are blanked.
 abbrev pub Blanks : Type 0
@@ -72,3 +74,18 @@ pub record OldReads : Type 0 where
   pub magic : foundOf oldFile 1 .entry .magic ≡ pos 2
   pub position : foundOf oldFile 1 .entry .position ≡ pos 9
   pub not-saved : takes oldFile (save 2 leastScan (replicate 54 0)) ≡ false
+
+-- ---- there and home again
+
+-- the same file in the current form, its position code at byte 60
+unfoldable pub currentFile : List ℕ
+currentFile =
+    (0 ∷ 0 ∷ 0 ∷ 2 ∷ 0 ∷ 0 ∷ 0 ∷ 1 ∷ 0 ∷ 0 ∷ 2 ∷ 0 ∷ 0 ∷ 0 ∷ 0 ∷ 64 ∷ 0 ∷ 0 ∷ 0 ∷ 1 ∷ 0 ∷ 0 ∷ 0 ∷ 7 ∷ 0 ∷ 0 ∷ 0 ∷ 0 ∷ 0 ∷ 0 ∷ 0 ∷ 1 ∷ replicate 480 0)
+    ++ ((0 ∷ 0 ∷ 0 ∷ 3 ∷ 0 ∷ 0 ∷ 0 ∷ 3 ∷ (replicate 52 0 ++ (0 ∷ 9 ∷ replicate 450 0))) ++ (leastScan ++ replicate 256 0))
+
+-- Each is converted to the other, by computation, whatever stood in the second buffer.
+pub record BothWays : Type 0 where
+  pub to-current : convertOf 1 oldFile (replicate 1024 7) ≡ Accepted
+  pub is-current : converted 1 oldFile (replicate 1024 7) ≡ currentFile
+  pub to-old : convertOf 0 currentFile (replicate 1024 7) ≡ Accepted
+  pub is-old : converted 0 currentFile (replicate 1024 7) ≡ oldFile

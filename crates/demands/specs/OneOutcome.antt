@@ -18,6 +18,7 @@ use Rattle.paper.specs.Scan.{partOf, spanPlace, classOf, dataOf}
 use Rattle.paper.specs.Look.{listedOf, listedOut, foundOf, showOf, readOf}
 use Rattle.paper.specs.Store.{blankOf, blankFile, saveOf, keepOf, clearOf}
 use Rattle.paper.specs.Step.{stepFile, stepJob, stepAnswer}
+use Rattle.paper.specs.Convert.{convertOf, convertedOut}
 
 -- at most one is allowed
 abbrev pub Only : {A : Type 0} → (A → Type 0) → Type 0
@@ -57,3 +58,5 @@ pub record OneOutcome : Type 0 where
       (stepSays (x .answer .answer) ≡ stepSays (stepAnswer f scan j)) × (x .answer .job ≡ stepJob f scan j) × (x .lent ≡ stepFile f scan j))
   pub blank : (f : List ℕ) (n l m : ℕ)
       → Only (λ (x : Outcome Taken). (takenSays (x .answer) ≡ takenSays (blankOf f n l m)) × (x .lent ≡ blankFile f n l m))
+  pub convert : (v : ℕ) (f out : List ℕ)
+      → Only (λ (x : Outcome Taken). (takenSays (x .answer) ≡ takenSays (convertOf v f out)) × (x .lent ≡ convertedOut v f out))

@@ -20,7 +20,8 @@ use Rattle.paper.specs.Scan.{ruledOf, partOf, classOf, dataOf}
 use Rattle.paper.specs.Look.{listOf, listedOf, foundOf, showOf, readOf}
 use Rattle.paper.specs.Store.{blankOf, recordsFor, runFrom, saveOf, keepOf, clearOf}
 use Rattle.paper.specs.Step.{stepAnswer}
-use Rattle.demands.specs.Causes.{Row, end, Given, Met, OpenRow, SlotRow, RuleRow, ReadRow, ListRow, ClearRow, SaveRow, KeepRow, StepRow, BlankRow}
+use Rattle.paper.specs.Convert.{convertOf}
+use Rattle.demands.specs.Causes.{Row, end, Given, Met, OpenRow, SlotRow, RuleRow, ReadRow, ListRow, ClearRow, SaveRow, KeepRow, StepRow, ConvertRow, BlankRow}
 use Rattle.demands.specs.History.{Op, save, keep, clear, Whole, scanOf, recordsOf, slotOf, takes, stateAfter}
 
 -- "A file opens exactly when" the facts of `Sound` hold: 01's ranges, its entries, and its rule that no two scans share a record.
@@ -49,6 +50,7 @@ pub record RefusedExactly : Type 0 where
   pub clear-slot : (f : List ℕ) (slot : ℕ) → Told (takenSays (clearOf f slot .answer)) (ClearRow f slot)
   pub step-job : (f scan : List ℕ) (j : Job) → Told (stepSays (stepAnswer f scan j)) (StepRow f scan j)
   pub blank : (f : List ℕ) (n l m : ℕ) → Told (takenSays (blankOf f n l m)) (BlankRow f n l m)
+  pub convert : (v : ℕ) (f out : List ℕ) → Told (takenSays (convertOf v f out)) (ConvertRow v f out)
 
 -- ---- what is confirmed stands
 

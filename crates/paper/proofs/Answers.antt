@@ -8,7 +8,7 @@ use lib.Dec.{eqb}
 use lib.ListN.{getD}
 use borrow.Author.Tests.{ne-eqb}
 use Rattle.paper.specs.declared.refusal.Refusal.{Refusal}
-use Rattle.paper.specs.declared.refusal.Refusal.the-variants.{TooShort, OldForm, UnknownForm, OutOfRange, PastEnd, BadEntry, AboveUse, SharedRecord, NoSuchSlot, EmptySlot, BadScan, NoEmptySlot, NoRoom, Disagrees, Differs, BadBlank, TooSmall, NotVersionOne}
+use Rattle.paper.specs.declared.refusal.Refusal.the-variants.{TooShort, OldForm, UnknownForm, OutOfRange, PastEnd, BadEntry, AboveUse, SharedRecord, NoSuchSlot, EmptySlot, BadScan, NoEmptySlot, NoRoom, Disagrees, Differs, BadBlank, TooSmall, NotVersionOne, NotConvertible}
 use Rattle.paper.specs.declared.answer.Opened.{Opened}
 use Rattle.paper.specs.declared.answer.Opened.the-variants as opened
 use Rattle.paper.specs.declared.answer.Listed.{Listed}
@@ -50,6 +50,7 @@ refusalAt n v =
     ∷ BadBlank
     ∷ TooSmall
     ∷ NotVersionOne
+    ∷ NotConvertible
     ∷ []) n TooShort
 
 undo : (r : Refusal) → refusalAt (numberOf r) (valueOf r) ≡ r
@@ -71,6 +72,7 @@ undo Differs = refl
 undo BadBlank = refl
 undo TooSmall = refl
 undo NotVersionOne = refl
+undo NotConvertible = refl
 
 -- no refusal has number 0, the number of what is accepted
 pub number-some : (r : Refusal) → numberOf r ≡ 0 → ⊥

@@ -83,6 +83,25 @@ module _ (f : List ℕ) (v at i : ℕ) {r : ℕ} where
   unfolding wordAt
   word-current h p = p ∙ by-current v _ _ h
 
+-- where each form has its counter and its position code
+module _ (f : List ℕ) where
+  pub counter-old : versionOf f ≡ 0 → counterOf f ≡ be16 f 10
+  unfolding counterOf
+  counter-old e = sym (by-old (versionOf f) _ _ e)
+
+  pub counter-current : (versionOf f ≡ 0 → ⊥) → counterOf f ≡ be32 f 20
+  unfolding counterOf
+  counter-current h = sym (by-current (versionOf f) _ _ h)
+
+module _ (v : ℕ) (f : List ℕ) (at : ℕ) where
+  pub position-old : v ≡ 0 → positionOf v f at ≡ be16 f (at + 6)
+  unfolding positionOf
+  position-old e = sym (by-old v _ _ e)
+
+  pub position-current : (v ≡ 0 → ⊥) → positionOf v f at ≡ be16 f (at + 60)
+  unfolding positionOf
+  position-current h = sym (by-current v _ _ h)
+
 -- ---- the current form
 
 pub current-word : (v : ℕ) (f : List ℕ) (at i : ℕ) → v ≡ 1 → wordAt v f at i ≡ be32 f (at + 4 * i)

@@ -19,8 +19,9 @@ use Rattle.paper.specs.Scan.{classesOf, startsOf, rule1, rule2, rule3, r
 use Rattle.paper.specs.Look.{linesOf, listedOf, listedOut, foundOf, showOf, readOf}
 use Rattle.paper.specs.Store.{freeAt, freePlace, emptySlot, saveOf, keepOf, clearOf, dataFrom, writesOf}
 use Rattle.paper.specs.Step.{agrees, stands}
+use Rattle.paper.specs.Convert.{bootAs, scanAs, entryAs, entriesAs, recordsAs, otherMagic, wideRun, convertOf, convertedOut, joined}
 use Rattle.paper.specs.Lister.{digits, linesText, listText, printed}
-use Rattle.paper.specs.Known.{Refusals, Answers, Boot, OldBoot, Entries, Kinds, scan13, scan15, Scans, Rules, Index, Places, file, File, oldFile, OldFile, Parts, Agrees, Stands, Renewed, Zeros, Prints}
+use Rattle.paper.specs.Known.{Refusals, Answers, Boot, OldBoot, Entries, Kinds, scan13, scan15, Scans, Rules, Index, Places, file, File, oldFile, OldFile, InBytes, Edges, Conversions, Parts, Agrees, Stands, Renewed, Zeros, Prints}
 
 pub refusals : Refusals
 refusals =
@@ -43,6 +44,7 @@ refusals =
       bad-blank = refl;
       too-small = refl;
       not-version-one = refl;
+      not-convertible = refl;
     }
 
 pub answers : Answers
@@ -275,6 +277,52 @@ oldFiles =
       before-4 = refl;
       after-1 = refl;
       no-step = refl;
+    }
+
+pub inBytes : InBytes
+unfolding digit bytes numbers table zeros pad empty bootBytes bootAs scanAs entryAs
+inBytes =
+    record {
+      boot-old = refl;
+      boot-current = refl;
+      scan-old = refl;
+      scan-current = refl;
+      padded = refl;
+      empty-old = refl;
+      empty-current = refl;
+    }
+
+pub edges : Edges
+unfolding least wideRun
+edges =
+    record {
+      most = refl;
+      d = refl;
+      counter = refl;
+      type-1 = refl;
+      already = refl;
+      narrow = refl;
+      first = refl;
+      last = refl;
+    }
+
+pub conversions : Conversions
+unfolding number value widened digit bytes numbers table zeros pad least write wordAt counterOf typeOf bootBytes shaped inRange empty inData badAt aboveAt shares sharer sharedAt magicOf positionOf versionOne otherMagic wideRun bootAs scanAs entryAs entriesAs recordsAs convertOf convertedOut joined scan13 scan15 file oldFile
+conversions =
+    record {
+      magic-1 = refl;
+      accepted = refl;
+      short = refl;
+      short-already = refl;
+      already = refl;
+      already-current = refl;
+      shared = refl;
+      type-1 = refl;
+      counter = refl;
+      untouched = refl;
+      to-current = refl;
+      to-old = refl;
+      rest = refl;
     }
 
 pub standing : Stands

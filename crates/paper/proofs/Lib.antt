@@ -21,3 +21,8 @@ pub mod Records
 pub mod Confirming
 pub mod Reading
 pub mod Blank
+pub mod Carrying
+pub mod Converting
+pub mod Reforming
+pub mod Homing
+pub mod Windows

@@ -9,9 +9,10 @@ use lib.ListN.{length, take, drop, getD, replicate}
 use Rattle.lent.specs.Number.{int16}
 use Rattle.lent.specs.Lists.{table}
 use Rattle.lent.specs.Write.{write}
+use Rattle.lent.specs.Checks.{clear, fires, fired}
 use Rattle.paper.specs.declared.sizes.Sizes.{Sizes}
 use Rattle.paper.specs.declared.sizes.Run.{Run}
-use Rattle.paper.specs.declared.refusal.Refusal.the-variants.{TooShort, OldForm, UnknownForm, OutOfRange, PastEnd, BadEntry, AboveUse, SharedRecord, NoSuchSlot, EmptySlot, BadScan, NoEmptySlot, NoRoom, Disagrees, Differs, BadBlank, TooSmall, NotVersionOne}
+use Rattle.paper.specs.declared.refusal.Refusal.the-variants.{TooShort, OldForm, UnknownForm, OutOfRange, PastEnd, BadEntry, AboveUse, SharedRecord, NoSuchSlot, EmptySlot, BadScan, NoEmptySlot, NoRoom, Disagrees, Differs, BadBlank, TooSmall, NotVersionOne, NotConvertible}
 use Rattle.paper.specs.declared.answer.Opened.{Opened}
 use Rattle.paper.specs.declared.answer.Opened.the-variants as opened
 use Rattle.paper.specs.declared.answer.Listed.the-variants as listed
@@ -31,6 +32,7 @@ use Rattle.paper.specs.Scan.{classesOf, startsOf, rule1, ruledOf, classO
 use Rattle.paper.specs.Look.{listedOf, listedOut, foundOf, showOf, readOf}
 use Rattle.paper.specs.Store.{blankSizes, freePlace, emptySlot, noJob, saveOf, keepOf, clearOf, sizesAfter}
 use Rattle.paper.specs.Step.{agrees, noWrite, stands, isConfirmed}
+use Rattle.paper.specs.Convert.{Carried, bootAs, scanAs, entryAs, wideRun, formChecks, convertOf, convertedOut, joined}
 use Rattle.paper.specs.Lister.{decimal, printed, listText}
 
 -- ---- what answers say
@@ -58,6 +60,7 @@ pub record Refusals : Type 0 where
   pub bad-blank : refuses BadBlank ≡ says 16 (0 ∷ [])
   pub too-small : refuses TooSmall ≡ says 17 (0 ∷ [])
   pub not-version-one : refuses NotVersionOne ≡ says 18 (0 ∷ [])
+  pub not-convertible : refuses NotConvertible ≡ says 19 (0 ∷ [])
 
 -- sizes with every number its own
 abbrev pub someSizes : Sizes
@@ -429,6 +432,74 @@ pub record OldFile : Type 0 where
   pub after-1 : takenSays (clearOf (take 511 oldFile) 1 .answer) ≡ says 1 (0 ∷ [])
   -- "a step on an old file gets 14", whatever the job expects
   pub no-step : agrees oldFile [] (clearWith 1 0 (take 32 oldBoot)) ≡ false
+
+-- ---- to the other form
+
+-- what an entry says, each byte its own
+abbrev pub carriedIs : ℕ → ℕ → ℕ → Carried
+carriedIs first last position = record { run = record { first = first; last = last }; position = position; middle = take 52 bytes54 }
+
+pub record InBytes : Type 0 where
+  -- "six words"; "words 1 to 8"
+  pub boot-old : bootAs 0 (record { n = 258; d = 772; l = 1286; m = 1800; u = 2314; counter = 2828; kind = 0; version = 1 }) ≡ take 12 bytes32
+  pub boot-current : bootAs 1 (record { n = 16909060; d = 84281096; l = 151653132; m = 219025168; u = 286397204; counter = 353769240; kind = 0; version = 0 })
+      ≡ take 24 bytes32 ++ (0 ∷ 0 ∷ 0 ∷ 0 ∷ 0 ∷ 0 ∷ 0 ∷ 1 ∷ [])
+  -- "first, last, 2, position code, bytes 8 to 59"; "first, last, bytes 8 to 59, position code at 60"
+  pub scan-old : scanAs 0 (carriedIs 258 772 1800) ≡ 1 ∷ 2 ∷ 3 ∷ 4 ∷ 0 ∷ 2 ∷ 7 ∷ 8 ∷ take 52 bytes54
+  pub scan-current : scanAs 1 (carriedIs 16909060 84281096 15678) ≡ 1 ∷ 2 ∷ 3 ∷ 4 ∷ 5 ∷ 6 ∷ 7 ∷ 8 ∷ bytes54
+  -- zeros after it, and nothing else where it is empty
+  pub padded : entryAs 1 65 (carriedIs 16909060 84281096 15678) ≡ 1 ∷ 2 ∷ 3 ∷ 4 ∷ 5 ∷ 6 ∷ 7 ∷ 8 ∷ (bytes54 ++ (0 ∷ 0 ∷ 0 ∷ []))
+  pub empty-old : entryAs 0 64 (carriedIs 0 0 1800) ≡ replicate 64 0
+  pub empty-current : entryAs 1 64 (carriedIs 0 0 1800) ≡ replicate 64 0
+
+-- sizes that the old form holds, but for D and the counter
+abbrev pub goingWith : ℕ → ℕ → ℕ → Sizes
+goingWith d counter kind = record { n = 2; d = d; l = 512; m = 64; u = 0; counter = counter; kind = kind; version = 1 }
+
+-- "D, a first or a last above 32,767 or a counter above 65,535 when going old", each at its edge; "is of type 1"; "already in the wanted form"
+pub record Edges : Type 0 where
+  pub most : fired (formChecks 0 [] (goingWith 32767 65535 0)) ≡ clear
+  pub d : fired (formChecks 0 [] (goingWith 32768 65535 0)) ≡ fires NotConvertible
+  pub counter : fired (formChecks 0 [] (goingWith 32767 65536 0)) ≡ fires NotConvertible
+  pub type-1 : fired (formChecks 0 [] (goingWith 32767 65535 1)) ≡ fires NotConvertible
+  pub already : fired (formChecks 1 [] (goingWith 32767 65535 0)) ≡ fires NotConvertible
+  pub narrow : wideRun (λ s. record { first = 32767; last = 32767 }) 1 ≡ false
+  pub first : wideRun (λ s. record { first = 32768; last = 32767 }) 1 ≡ true
+  pub last : wideRun (λ s. record { first = 32767; last = 32768 }) 1 ≡ true
+
+-- the old file with magic 2 at each scan, and the current one with type 0 and a counter of 16 bits
+abbrev pub oldTwos : List ℕ
+oldTwos = write oldFile 645 (2 ∷ [])
+
+abbrev pub smallFile : List ℕ
+smallFile = write file 20 (0 ∷ 0 ∷ 255 ∷ 255 ∷ 0 ∷ 0 ∷ 0 ∷ 0 ∷ [])
+
+pub record Conversions : Type 0 where
+  -- "Old to new needs magic 2 at each scan": slot 2's is 1; that of the empty slot 4 is 3, and is not asked
+  pub magic-1 : convertOf 1 oldFile (replicate 1024 88) ≡ taken.Refused NotConvertible
+  pub accepted : convertOf 1 oldTwos (replicate 1024 88) ≡ taken.Accepted
+  -- "17 for a second buffer under N x L bytes", before 19 and "also for a file already in the wanted form"
+  pub short : convertOf 1 oldFile (replicate 1023 88) ≡ taken.Refused TooSmall
+  pub short-already : convertOf 0 oldFile (replicate 1023 88) ≡ taken.Refused TooSmall
+  pub already : convertOf 0 oldTwos (replicate 1024 88) ≡ taken.Refused NotConvertible
+  pub already-current : convertOf 1 smallFile (replicate 1024 88) ≡ taken.Refused NotConvertible
+  -- open's own before both
+  pub shared : convertOf 0 (write oldFile 641 (4 ∷ 0 ∷ 4 ∷ [])) [] ≡ taken.Refused (SharedRecord 2)
+  -- type 1, and a counter of 32 bits
+  pub type-1 : convertOf 0 (write smallFile 27 (1 ∷ [])) (replicate 1024 88) ≡ taken.Refused NotConvertible
+  pub counter : convertOf 0 (write smallFile 21 (1 ∷ [])) (replicate 1024 88) ≡ taken.Refused NotConvertible
+  pub untouched : convertedOut 0 oldTwos (replicate 1024 88) ≡ replicate 1024 88
+  -- "Convert the bootstrap and index into a second lent buffer, N records, the rest of that buffer untouched"
+  pub to-current : convertedOut 1 oldTwos (replicate 1026 88)
+      ≡ 0 ∷ 0 ∷ 0 ∷ 2 ∷ 0 ∷ 0 ∷ 0 ∷ 3 ∷ 0 ∷ 0 ∷ 2 ∷ 0 ∷ 0 ∷ 0 ∷ 0 ∷ 128 ∷ 0 ∷ 0 ∷ 0 ∷ 4 ∷ 0 ∷ 0 ∷ 255 ∷ 255 ∷ 0 ∷ 0 ∷ 0 ∷ 0 ∷ 0 ∷ 0 ∷ 0 ∷ 1
+      ∷ (replicate 480 0 ++ (0 ∷ 0 ∷ 0 ∷ 4 ∷ 0 ∷ 0 ∷ 0 ∷ 4 ∷ (take 52 bytes54 ++ (255 ∷ 253 ∷ (replicate 66 0
+      ++ (0 ∷ 0 ∷ 0 ∷ 3 ∷ 0 ∷ 0 ∷ 0 ∷ 3 ∷ (replicate 54 5 ++ (replicate 66 0 ++ (0 ∷ 0 ∷ 0 ∷ 5 ∷ 0 ∷ 0 ∷ 0 ∷ 5 ∷ (replicate 120 0 ++ (replicate 128 0 ++ (88 ∷ 88 ∷ []))))))))))))
+  pub to-old : convertedOut 0 smallFile (replicate 1026 88)
+      ≡ 0 ∷ 2 ∷ 0 ∷ 3 ∷ 2 ∷ 0 ∷ 0 ∷ 128 ∷ 0 ∷ 4 ∷ 255 ∷ 255
+      ∷ (replicate 500 0 ++ (0 ∷ 4 ∷ 0 ∷ 4 ∷ 0 ∷ 2 ∷ 61 ∷ 62 ∷ (take 52 bytes54 ++ (replicate 68 0
+      ++ (0 ∷ 3 ∷ 0 ∷ 3 ∷ 0 ∷ 2 ∷ 5 ∷ 5 ∷ (replicate 52 5 ++ (replicate 68 0 ++ (0 ∷ 5 ∷ 0 ∷ 5 ∷ 0 ∷ 2 ∷ (replicate 122 0 ++ (replicate 128 0 ++ (88 ∷ 88 ∷ [])))))))))))
+  -- "the data section being the same": the file's own bytes from N x L on
+  pub rest : drop 1024 (joined oldTwos (convertedOut 1 oldTwos (replicate 1024 88))) ≡ drop 1024 oldTwos
 
 -- ---- the counter and record 1
 

@@ -3,7 +3,7 @@ use Prim.Native.Nat.{ℕ}
 use mathlib.Core.List.{List, [], _∷_}
 use lib.Ieee.{Float}
 use Rattle.paper.specs.declared.refusal.Refusal.{Refusal}
-use Rattle.paper.specs.declared.refusal.Refusal.the-variants.{TooShort, OldForm, UnknownForm, OutOfRange, PastEnd, BadEntry, AboveUse, SharedRecord, NoSuchSlot, EmptySlot, BadScan, NoEmptySlot, NoRoom, Disagrees, Differs, BadBlank, TooSmall, NotVersionOne}
+use Rattle.paper.specs.declared.refusal.Refusal.the-variants.{TooShort, OldForm, UnknownForm, OutOfRange, PastEnd, BadEntry, AboveUse, SharedRecord, NoSuchSlot, EmptySlot, BadScan, NoEmptySlot, NoRoom, Disagrees, Differs, BadBlank, TooSmall, NotVersionOne, NotConvertible}
 use Rattle.paper.specs.declared.answer.Opened.{Opened}
 use Rattle.paper.specs.declared.answer.Opened.the-variants as opened
 use Rattle.paper.specs.declared.answer.Listed.{Listed}
@@ -37,6 +37,7 @@ numberOf Differs = 15
 numberOf BadBlank = 16
 numberOf TooSmall = 17
 numberOf NotVersionOne = 18
+numberOf NotConvertible = 19
 
 -- "with slot or reason where shown, else 0"
 abbrev pub valueOf : Refusal → ℕ
@@ -58,6 +59,7 @@ valueOf Differs = 0
 valueOf BadBlank = 0
 valueOf TooSmall = 0
 valueOf NotVersionOne = 0
+valueOf NotConvertible = 0
 
 -- what an answer says: the refusal's number, or 0 where the call is accepted; and the values that go with it
 pub record Says : Type 0 where

@@ -21,6 +21,7 @@ pub enum Refusal {
     BadBlank,
     TooSmall,
     NotVersionOne,
+    NotConvertible,
 }
 
 impl Refusal {
@@ -47,6 +48,7 @@ impl Refusal {
             Refusal::BadBlank => 16,
             Refusal::TooSmall => 17,
             Refusal::NotVersionOne => 18,
+            Refusal::NotConvertible => 19,
         }
     }
 
@@ -73,6 +75,7 @@ impl Refusal {
             Refusal::BadBlank => 0,
             Refusal::TooSmall => 0,
             Refusal::NotVersionOne => 0,
+            Refusal::NotConvertible => 0,
         }
     }
 }

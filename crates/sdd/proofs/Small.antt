@@ -1,4 +1,4 @@
--- Refusal numbers end at 18, slots at 4,096 and reasons at 6: what a refusal says fits the face.
+-- Refusal numbers end at 19, slots at 4,096 and reasons at 6: what a refusal says fits the face.
 use Prim.Native.Nat.{ℕ, _-_, _*_, _≤_, _<_}
 use mathlib.Core.Path.{_≡_, refl, sym, _∙_, subst}
 use mathlib.Core.Bool.{Bool, true, false, cond}
@@ -16,7 +16,7 @@ use Rattle.lent.proofs.Checks.{clear≢fires, fires-same}
 use Rattle.paper.specs.declared.sizes.Sizes.{Sizes}
 use Rattle.paper.specs.declared.sizes.Run.{Run}
 use Rattle.paper.specs.declared.refusal.Refusal.{Refusal}
-use Rattle.paper.specs.declared.refusal.Refusal.the-variants.{TooShort, OldForm, UnknownForm, OutOfRange, PastEnd, BadEntry, AboveUse, SharedRecord, NoSuchSlot, EmptySlot, BadScan, NoEmptySlot, NoRoom, Disagrees, Differs, BadBlank, TooSmall, NotVersionOne}
+use Rattle.paper.specs.declared.refusal.Refusal.the-variants.{TooShort, OldForm, UnknownForm, OutOfRange, PastEnd, BadEntry, AboveUse, SharedRecord, NoSuchSlot, EmptySlot, BadScan, NoEmptySlot, NoRoom, Disagrees, Differs, BadBlank, TooSmall, NotVersionOne, NotConvertible}
 use Rattle.paper.specs.declared.answer.Opened.{Opened}
 use Rattle.paper.specs.declared.answer.Opened.the-variants as opened
 use Rattle.paper.specs.declared.answer.Listed.the-variants as listed
@@ -36,12 +36,13 @@ use Rattle.paper.specs.Index.{runOf, shownOf, badAt, aboveAt, sharedAt, indexCh
 use Rattle.paper.specs.Scan.{ruledOf, classAt, classEnd, classIn, ofRuled, classOf, dataOf, startsOf, classesOf}
 use Rattle.paper.specs.Look.{listOf, listChecks, listedOf, heldChecks, slotChecks, otherScan, readChecks, noSlot, foundOf, showOf, readIn, readOf}
 use Rattle.paper.specs.Store.{blankChecks, blankSizes, blankOf, reasonOf, scanChecks, refused, saveOf, keepOf, keepSlot, clearOf}
+use Rattle.paper.specs.Convert.{tooSmall, formChecks, convertChecks, convertOf}
 use Rattle.paper.specs.Step.{agrees, hasLeft, wroteOf, confirmed, confirmOf, stands, stepAnswer}
 use Rattle.paper.proofs.Opening.{boot-sound, open-index, open-refused, refused-fires, then-opens, then-refused, change-old, change-look}
 use Rattle.paper.proofs.Reasons.{reason-least}
 use Rattle.sdd.specs.Face.{TakenSmall, SpanSmall, ListedSmall, StepSmall}
 
-pub number-small : (r : Refusal) → numberOf r ≤ 18
+pub number-small : (r : Refusal) → numberOf r ≤ 19
 number-small TooShort = omega arith
 number-small OldForm = omega arith
 number-small UnknownForm = omega arith
@@ -60,6 +61,7 @@ number-small Differs = omega arith
 number-small BadBlank = omega arith
 number-small TooSmall = omega arith
 number-small NotVersionOne = omega arith
+number-small NotConvertible = omega arith
 
 -- ---- checks whose refusals have small values
 
@@ -195,6 +197,13 @@ keep-small f scan about = judged (λ (x : Begun). TakenSmall (x .answer)) refuse
 pub clear-small : (f : List ℕ) (slot : ℕ) → TakenSmall (clearOf f slot .answer)
 unfolding clearOf
 clear-small f slot = judged (λ (x : Begun). TakenSmall (x .answer)) refused (changeChecks f ++ heldChecks f slot) _ (change-small f (heldChecks f slot) (omega arith, (omega arith, tt))) tt
+
+pub convert-small : (v : ℕ) (f out : List ℕ) → TakenSmall (convertOf v f out)
+unfolding convertOf
+convert-small v f out =
+    judged TakenSmall taken.Refused (convertChecks v f out) _
+    (then-small f (tooSmall out (sizesOf f) ∷ formChecks v f (sizesOf f)) (omega arith, (omega arith, (omega arith, (omega arith, (omega arith, (omega arith, (omega arith, tt))))))))
+    tt
 
 either-way : (P : Step → Type 0) (t : Bool) (a b : Step) → P a → P b → P (cond t a b)
 either-way P true a b x y = x
