@@ -1,0 +1,5 @@
+pub mod Calling
+pub mod Fitting
+pub mod Recording
+pub mod Storing
+pub mod Zeroing
