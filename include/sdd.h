@@ -39,12 +39,14 @@
  * the current form's. Where an entry's magic number is 2 its scan is SDD version 1; where it is another
  * (1 is IEEE KEEP) the scan is listed and shown but not read (18). Old files are looked at, by open,
  * list, entry_at, show and read. They are not changed: save, keep and clear answer 2 and a step 14, and
- * blank makes files of the current form alone.
+ * blank makes files of the current form alone. to_current and to_old write a file's bootstrap and index in
+ * the other form into other memory; the data section is the same in both.
  *
  * The refusals by number. Each call's comment has its own in the order in which they are looked
  * for. A call that looks at a file has "open's own", 1 and then 3 to 8 as numbered; one that begins
  * a change has 1 to 8. Then come 9 or 12, 10, 18, 11, 13 (so a keep's 12 comes before its 11); a list's
- * 17 last; a step's 14 first, and of a confirming step then open's own and 15.
+ * 17 last; a conversion's 17 and then its 19; a step's 14 first, and of a confirming step then open's own
+ * and 15.
  *
  *    1  fewer than 512 bytes
  *    2  save, keep, clear: the file has the old form (word 8 is 0), which is not changed
@@ -62,8 +64,10 @@
  *   14  step: the job and the file (or the scan) disagree
  *   15  confirming step: the entry or the records are not what the job gives
  *   16  blank: sizes outside their ranges, or too large for what was lent
- *   17  what was lent for the answer is too short to hold it
+ *   17  list, to_current, to_old: what was lent for the answer is too short to hold it
  *   18  read: the entry of an old file says that the scan is not of version 1 (its magic is not 2)
+ *   19  to_current, to_old: the file has the wanted form already, is of type 1, has a scan whose magic is
+ *       not 2, or has a number that the old form cannot hold
  */
 #ifndef SDD_H
 #define SDD_H
@@ -94,7 +98,8 @@ enum {
   SDD_NOT_CONFIRMED = 15,
   SDD_BAD_SIZES = 16,
   SDD_ANSWER_TOO_LONG = 17,
-  SDD_NOT_VERSION_ONE = 18
+  SDD_NOT_VERSION_ONE = 18,
+  SDD_NOT_CONVERTIBLE = 19
 };
 
 /* What a step did, as `done` has it. */
@@ -137,10 +142,12 @@ enum { SDD_OTHER = 0, SDD_CONTINUUM = 1, SDD_SPECTRAL_LINE = 2 };
 #define SDD_STACK_KEEP (168 * 1024)
 #define SDD_STACK_CLEAR (168 * 1024)
 #define SDD_STACK_STEP (168 * 1024)
+#define SDD_STACK_TO_CURRENT (168 * 1024)
+#define SDD_STACK_TO_OLD (168 * 1024)
 
 /* Why a call was refused; {0, 0} where it was not. */
 typedef struct {
-  uint32_t number; /* 1 to 18 as above, 0: accepted */
+  uint32_t number; /* 1 to 19 as above, 0: accepted */
   uint32_t value;  /* the slot (6, 7, 8) or the rule (11), else 0 */
 } sdd_refusal;
 
@@ -303,6 +310,31 @@ sdd_begun sdd_clear(const uint8_t *file, size_t file_len, uint64_t slot);
  * then also open's own, then 15. */
 sdd_stepped sdd_step(uint8_t *file, size_t file_len, const uint8_t *scan, size_t scan_len,
                      sdd_job job);
+
+/* Converts a file of the old form: writes its bootstrap and index, records 1 to N, as the current form has
+ * them. These n x l bytes, with the file's own bytes from n x l on behind them, are the converted file: it
+ * opens with the same N, D, L, M, U and counter, is of type 0, and has the same list, the same entries but
+ * for the magic number, and the same records.
+ * Record 1 gets the eight words and then zeros. An entry gets first and last record, its bytes 8 to 59 as
+ * they are, the position code in bytes 60 and 61, and then zeros; an empty entry gets zeros, whatever it
+ * held.
+ * Lent: the file, to look at; `out`, whose first n x l bytes are written where the call is accepted, and
+ * nothing beyond.
+ * Refusals: open's own, 1 and then 3 to 8; then 17 where out_len is less than n x l, also of a file that has
+ * the current form already; then 19 where it has, or where a scan's magic number is not 2 (an empty entry's
+ * is not asked). */
+sdd_refusal sdd_to_current(const uint8_t *file, size_t file_len, uint8_t *out, size_t out_len);
+
+/* Converts a file of the current form to the old one, as sdd_to_current does the other way. Record 1 gets
+ * the six words and then zeros, an entry its first and last record, magic number 2 and position code, its
+ * bytes 8 to 59 as they are, and then zeros; an empty entry gets zeros.
+ * A file that is converted and then converted home again shows the same list and entries, and has the same
+ * bytes where its padding and its empty entries were zeros.
+ * Lent: as for sdd_to_current.
+ * Refusals: open's own, 1 and then 3 to 8; then 17 where out_len is less than n x l, also of a file that has
+ * the old form already; then 19 where it has, where it is of type 1, or where D, a scan's first or its last
+ * record is above 32,767 or the counter above 65,535. */
+sdd_refusal sdd_to_old(const uint8_t *file, size_t file_len, uint8_t *out, size_t out_len);
 
 #ifdef __cplusplus
 }

@@ -126,8 +126,8 @@ static inline const char *sdd_sentence(sdd_refusal why) {
              "copied whole";
     case SDD_OLD_FORM:
       return "the file has the old form from before 1993, which is looked at here and not "
-             "changed: save to a file of the current form, as blank makes one, or have the "
-             "station convert this one";
+             "changed: convert it into a second file, of the current form, and work on that "
+             "one";
     case SDD_UNKNOWN_VERSION:
       return "the file is of no version that is known: check that it is an SDD file";
     case SDD_BAD_BOOTSTRAP:
@@ -167,10 +167,15 @@ static inline const char *sdd_sentence(sdd_refusal why) {
              "of L, with at most 4,096 slots, and N records must fit";
     case SDD_ANSWER_TOO_LONG:
       return "the answer does not fit into what was lent for it: lend three numbers for each "
-             "scan";
+             "scan of a list, N records for a conversion";
     case SDD_NOT_VERSION_ONE:
       return "the old file says that this scan is not of SDD version 1, so it is not read: "
              "show its records as they stand, or have the station convert it";
+    case SDD_NOT_CONVERTIBLE:
+      return "the file cannot be converted, it has the wanted form already, holds individual "
+             "records, has a scan that is not of SDD version 1, or has a number too large for "
+             "the old form: list and check it to see which of these it is, and work on the "
+             "file as it is";
     default:
       return "";
   }

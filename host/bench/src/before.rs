@@ -6,7 +6,7 @@
 use crate::case::Case;
 use crate::clock::{Contender, Spread, contest, turns};
 use crate::{suite, table};
-use face::Calls;
+use face::{Calls, Refusal};
 use libc::{RTLD_LOCAL, RTLD_NOW, c_void, dlopen, dlsym};
 use std::cell::RefCell;
 use std::ffi::CString;
@@ -31,6 +31,11 @@ fn symbol(library: *mut c_void, name: &str) -> *mut c_void {
     let found = unsafe { dlsym(library, words(name).as_ptr()) };
     assert!(!found.is_null(), "the library has no {name}");
     found
+}
+
+/// Stands for a call that an earlier library does not have; no case of this comparison makes it.
+unsafe extern "C" fn not_there(_: *const u8, _: usize, _: *mut u8, _: usize) -> Refusal {
+    unreachable!("the library has no such call")
 }
 
 /// The calls of a shared object. An earlier library may answer with fewer fields: it is given memory for all of today's,
@@ -58,6 +63,8 @@ fn load(path: &str) -> Calls {
         keep: call!("sdd_keep"),
         clear: call!("sdd_clear"),
         step: call!("sdd_step"),
+        to_current: not_there,
+        to_old: not_there,
     }
 }
 

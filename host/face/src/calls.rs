@@ -3,7 +3,7 @@
 
 use crate::answers::{Begun, Entry, Job, Listed, Opened, Refusal, Span, Stepped};
 
-/// The twelve calls of the header, in its order. A slice is a pointer and then
+/// The fourteen calls of the header, in its order. A slice is a pointer and then
 /// a length; `about` is a pointer to 54 bytes.
 #[allow(missing_docs)]
 #[derive(Clone, Copy)]
@@ -20,4 +20,6 @@ pub struct Calls {
     pub keep: unsafe extern "C" fn(*const u8, usize, *const u8, usize, *const u8) -> Begun,
     pub clear: unsafe extern "C" fn(*const u8, usize, u64) -> Begun,
     pub step: unsafe extern "C" fn(*mut u8, usize, *const u8, usize, Job) -> Stepped,
+    pub to_current: unsafe extern "C" fn(*const u8, usize, *mut u8, usize) -> Refusal,
+    pub to_old: unsafe extern "C" fn(*const u8, usize, *mut u8, usize) -> Refusal,
 }

@@ -21,6 +21,7 @@ pub mod refused {
     pub const BAD_SIZES: u32 = 16;
     pub const ANSWER_TOO_LONG: u32 = 17;
     pub const NOT_VERSION_ONE: u32 = 18;
+    pub const NOT_CONVERTIBLE: u32 = 19;
 }
 
 /// What a step did.

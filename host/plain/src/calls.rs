@@ -1,4 +1,5 @@
-//! The calls: those that look, and those that change a file.
+//! The calls: those that look, those that change a file, and those that convert one.
 
+pub mod convert;
 pub mod look;
 pub mod store;

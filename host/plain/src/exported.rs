@@ -1,6 +1,6 @@
 //! The calls with the C face: pointers to slices, answers to structs of numbers.
 
-use crate::calls::{look, store};
+use crate::calls::{convert, look, store};
 use crate::ground::line::or;
 use crate::rules::boot::Answer;
 use face::{Begun, Calls, Entry, Job, Listed, Opened, Refusal, Span, Stepped};
@@ -21,6 +21,8 @@ pub fn calls<const X: u32>() -> Calls {
         keep: keep::<X>,
         clear: clear::<X>,
         step: step::<X>,
+        to_current: to_current::<X>,
+        to_old: to_old::<X>,
     }
 }
 
@@ -41,6 +43,10 @@ fn span(answer: Answer<(u64, u64)>) -> Span {
         Ok((from, to)) => Span { why: Refusal::NONE, from, to },
         Err(why) => Span { why, from: 0, to: 0 },
     }
+}
+
+fn refusal(answer: Answer<()>) -> Refusal {
+    answer.err().unwrap_or(Refusal::NONE)
 }
 
 fn begun(answer: Answer<Job>) -> Begun {
@@ -88,10 +94,7 @@ unsafe extern "C" fn data<const X: u32>(run: *const u8, run_len: usize) -> Span 
 }
 
 unsafe extern "C" fn blank<const X: u32>(file: *mut u8, file_len: usize, n: u64, l: u64, m: u64) -> Refusal {
-    match store::blank::<X>(unsafe { lent_mut(file, file_len) }, n, l, m) {
-        Ok(()) => Refusal::NONE,
-        Err(why) => why,
-    }
+    refusal(store::blank::<X>(unsafe { lent_mut(file, file_len) }, n, l, m))
 }
 
 unsafe extern "C" fn save<const X: u32>(
@@ -129,4 +132,17 @@ unsafe extern "C" fn step<const X: u32>(
     job: Job,
 ) -> Stepped {
     store::step::<X>(unsafe { lent_mut(file, file_len) }, unsafe { lent(scan, scan_len) }, &job)
+}
+
+unsafe extern "C" fn to_current<const X: u32>(
+    file: *const u8,
+    file_len: usize,
+    out: *mut u8,
+    out_len: usize,
+) -> Refusal {
+    refusal(convert::to_current::<X>(unsafe { lent(file, file_len) }, unsafe { lent_mut(out, out_len) }))
+}
+
+unsafe extern "C" fn to_old<const X: u32>(file: *const u8, file_len: usize, out: *mut u8, out_len: usize) -> Refusal {
+    refusal(convert::to_old::<X>(unsafe { lent(file, file_len) }, unsafe { lent_mut(out, out_len) }))
 }

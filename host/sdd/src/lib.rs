@@ -8,7 +8,8 @@
 //! that look at it are [`open`], [`list`], [`entry`], [`show`] and [`read`];
 //! [`class`], [`classes`] and [`data`] take a scan apart. [`blank`] makes an
 //! empty file. Files of the old form, from before 1993, are looked at like any
-//! other ([`Form`] says which it is), and not changed.
+//! other ([`Form`] says which it is), and not changed; [`to_current`] and
+//! [`to_old`] write bootstrap and index in the other form, into other memory.
 //!
 //! # To save a scan
 //! [`drive`] runs a job on a [`Device`]: it writes each record durably, reads
@@ -70,6 +71,7 @@
 //! 168 KiB of [`stack`]: more than some threads have.
 
 mod about;
+mod convert;
 mod device;
 pub mod drive;
 mod entry;
@@ -84,6 +86,7 @@ mod sizes;
 pub mod stack;
 
 pub use about::{About, NameTooLong};
+pub use convert::{to_current, to_old};
 pub use device::Device;
 pub use entry::{Entry, Kind};
 pub use head::Head;

@@ -29,6 +29,8 @@ mod chosen {
         fn sdd_keep(file: *const u8, file_len: usize, scan: *const u8, scan_len: usize, about: *const u8) -> Begun;
         fn sdd_clear(file: *const u8, file_len: usize, slot: u64) -> Begun;
         fn sdd_step(file: *mut u8, file_len: usize, scan: *const u8, scan_len: usize, job: Job) -> Stepped;
+        fn sdd_to_current(file: *const u8, file_len: usize, out: *mut u8, out_len: usize) -> Refusal;
+        fn sdd_to_old(file: *const u8, file_len: usize, out: *mut u8, out_len: usize) -> Refusal;
     }
 
     pub fn calls() -> Calls {
@@ -45,6 +47,8 @@ mod chosen {
             keep: sdd_keep,
             clear: sdd_clear,
             step: sdd_step,
+            to_current: sdd_to_current,
+            to_old: sdd_to_old,
         }
     }
 }

@@ -42,6 +42,8 @@ pub enum Refusal {
     AnswerTooLong,
     /// 18: an old file says that the scan is not of version 1.
     NotVersionOne,
+    /// 19: the file has the wanted form already, or cannot be had in it.
+    NotConvertible,
 }
 
 /// The rule that a scan breaks: the reason in refusal 11.
@@ -96,11 +98,12 @@ impl Refusal {
             refused::BAD_SIZES => Refusal::BadSizes,
             refused::ANSWER_TOO_LONG => Refusal::AnswerTooLong,
             refused::NOT_VERSION_ONE => Refusal::NotVersionOne,
+            refused::NOT_CONVERTIBLE => Refusal::NotConvertible,
             other => unreachable!("the library refused with number {other}, which this crate does not know"),
         })
     }
 
-    /// The paper's number, 1 to 18.
+    /// The paper's number, 1 to 19.
     pub fn number(self) -> u32 {
         match self {
             Refusal::TooShort => refused::TOO_SHORT,
@@ -121,6 +124,7 @@ impl Refusal {
             Refusal::BadSizes => refused::BAD_SIZES,
             Refusal::AnswerTooLong => refused::ANSWER_TOO_LONG,
             Refusal::NotVersionOne => refused::NOT_VERSION_ONE,
+            Refusal::NotConvertible => refused::NOT_CONVERTIBLE,
         }
     }
 

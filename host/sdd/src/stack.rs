@@ -38,10 +38,14 @@ pub const KEEP: usize = MOST;
 pub const CLEAR: usize = MOST;
 /// [`step`](crate::step).
 pub const STEP: usize = MOST;
+/// [`to_current`](crate::to_current).
+pub const TO_CURRENT: usize = MOST;
+/// [`to_old`](crate::to_old).
+pub const TO_OLD: usize = MOST;
 
 /// All of them, by the names that they have in the header after `sdd_`.
 #[doc(hidden)]
-pub const ALL: [(&str, usize); 12] = [
+pub const ALL: [(&str, usize); 14] = [
     ("open", OPEN),
     ("list", LIST),
     ("entry_at", ENTRY_AT),
@@ -54,4 +58,6 @@ pub const ALL: [(&str, usize); 12] = [
     ("keep", KEEP),
     ("clear", CLEAR),
     ("step", STEP),
+    ("to_current", TO_CURRENT),
+    ("to_old", TO_OLD),
 ];

@@ -16,8 +16,9 @@ fn refusals() -> Vec<Refusal> {
     let rules = [Length, Classes, Starts, Head, Data, Whole].map(BadScan);
     let before = [TooShort, OldForm, UnknownVersion, BadBootstrap, CutShort];
     let slots = [BadEntry(5), EntryAboveUsed(6), SharedRecord(7), NoSuchSlot, EmptySlot];
-    let after = [NoEmptySlot, NoRoom, JobDisagrees, NotConfirmed, BadSizes, AnswerTooLong, NotVersionOne];
-    [&before[..], &slots, &rules, &after].concat()
+    let after = [NoEmptySlot, NoRoom, JobDisagrees, NotConfirmed, BadSizes, AnswerTooLong];
+    let forms = [NotVersionOne, NotConvertible];
+    [&before[..], &slots, &rules, &after, &forms].concat()
 }
 
 /// `NoSuchSlot` as the header writes it.
@@ -45,7 +46,7 @@ fn constants() -> BTreeMap<String, usize> {
 fn the_header_names_every_number() {
     let mut wanted: BTreeMap<String, usize> =
         refusals().into_iter().map(|refusal| (c_name(refusal), refusal.number() as usize)).collect();
-    assert_eq!(wanted.len(), 18);
+    assert_eq!(wanted.len(), 19);
     use sdd::numbers::{done, kind, version};
     wanted.extend(
         [("OLD", version::OLD), ("CURRENT", version::CURRENT)]

@@ -77,6 +77,7 @@ fn every_refusal_has_its_row() {
         BadSizes,
         AnswerTooLong,
         NotVersionOne,
+        NotConvertible,
     ];
     for refusal in all {
         let (what, to_do) = refusal.sentence().split_once(": ").unwrap();

@@ -41,6 +41,7 @@ fn every_refusal_has_its_number_and_a_sentence() {
         BadSizes,
         AnswerTooLong,
         NotVersionOne,
+        NotConvertible,
     ];
     assert_eq!((sdd::numbers::refused::NO_ROOM, NoRoom.number()), (13, 13));
     for (number, refusal) in (1..).zip(all) {
@@ -50,7 +51,7 @@ fn every_refusal_has_its_number_and_a_sentence() {
             "{refusal} does not say what to do"
         );
     }
-    assert_eq!(all.map(Refusal::value), [0, 0, 0, 0, 0, 5, 6, 7, 0, 0, 4, 0, 0, 0, 0, 0, 0, 0]);
+    assert_eq!(all.map(Refusal::value), [0, 0, 0, 0, 0, 5, 6, 7, 0, 0, 4, 0, 0, 0, 0, 0, 0, 0, 0]);
 }
 
 #[test]

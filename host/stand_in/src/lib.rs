@@ -31,4 +31,6 @@ exported! {
     sdd_keep is keep(file: *const u8, file_len: usize, scan: *const u8, scan_len: usize, about: *const u8) -> Begun;
     sdd_clear is clear(file: *const u8, file_len: usize, slot: u64) -> Begun;
     sdd_step is step(file: *mut u8, file_len: usize, scan: *const u8, scan_len: usize, job: Job) -> Stepped;
+    sdd_to_current is to_current(file: *const u8, file_len: usize, out: *mut u8, out_len: usize) -> Refusal;
+    sdd_to_old is to_old(file: *const u8, file_len: usize, out: *mut u8, out_len: usize) -> Refusal;
 }

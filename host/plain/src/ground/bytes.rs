@@ -22,6 +22,11 @@ pub fn be64(bytes: &[u8], at: usize) -> u64 {
 }
 
 #[inline]
+pub fn put16(bytes: &mut [u8], at: usize, number: u16) {
+    bytes[at..at + 2].copy_from_slice(&number.to_be_bytes());
+}
+
+#[inline]
 pub fn put32(bytes: &mut [u8], at: usize, number: u64) {
     bytes[at..at + 4].copy_from_slice(&(number as u32).to_be_bytes());
 }

@@ -17,7 +17,7 @@ pub struct Run {
 impl Run {
     /// The run at the front of an entry.
     #[inline]
-    fn of<const X: u32, const OLD: bool>(entry: &[u8]) -> Run {
+    pub fn of<const X: u32, const OLD: bool>(entry: &[u8]) -> Run {
         if OLD && X != 97 {
             return Run::of_old::<X>(entry);
         }

@@ -266,7 +266,7 @@ pub fn is_file(name: &str) -> bool {
 /// What ends a run: the status, and when.
 pub const STATUSES: [(&str, &str); 9] = [
     ("0", "done"),
-    ("1 to 18", "refused with this number"),
+    ("1 to 19", "refused with this number"),
     ("64", "bad usage"),
     ("66", "no such file"),
     ("73", "something would be lost or doubled (the sentence names the option that does it)"),
