@@ -3,9 +3,11 @@
 mod about;
 mod blank;
 mod bytes;
+mod cause;
 mod change;
 mod check;
 mod classes;
+mod convert;
 mod demo;
 mod each;
 mod entry;
@@ -27,6 +29,7 @@ pub fn run(verb: Verb, args: &Args, out: &Out) -> Result<(), Failure> {
         Verb::Classes => classes::run(args, out),
         Verb::Clear => change::clear(args, out),
         Verb::Completion => pages::completion(args, out),
+        Verb::Convert => convert::run(args, out),
         Verb::Demo => demo::run(args, out),
         Verb::Entry => entry::run(args, out),
         Verb::Install => install::run(args, out),

@@ -1,9 +1,11 @@
 //! A file on its device, and the window through which the library sees it.
-//! From the ground up: `sys`, `sector`, `device`, `open`; `window`; `lent`, which has both.
+//! From the ground up: `sys`, `sector`, `device`, `open`, `beside`; `window`; `lent`, which has both, and `pieces`.
 
+pub mod beside;
 pub mod device;
 pub mod lent;
 pub mod open;
+pub mod pieces;
 pub mod sector;
 pub mod sys;
 pub mod window;

@@ -186,7 +186,10 @@ fn save_keep_and_clear_leave_it_as_it_is() {
             assert_eq!(output.status.code(), Some(2), "{words:?}: {}", said(&output));
             let sentence = "rinzo: refused 2: old.sdd: the file has the old form from before 1993, ";
             let said = said(&output);
-            assert!(said.starts_with(sentence) && said.contains(": save to a file of the current form"), "{said}");
+            assert!(
+                said.starts_with(sentence) && said.contains(": convert it into a second file, of the current form"),
+                "{said}"
+            );
             assert!(fs::read(folder.join("old.sdd")).unwrap() == bytes, "{words:?}");
         }
     }

@@ -43,7 +43,9 @@ fn bash_completes() {
         reply.to_string()
     };
     assert_eq!(ask("rinzo sa"), "save");
-    assert_eq!(ask("rinzo c"), "check classes clear completion");
+    assert_eq!(ask("rinzo c"), "check classes clear convert completion");
+    assert_eq!(ask("rinzo convert f.sdd --to ''"), "old current");
+    assert_eq!(ask("rinzo convert f.sdd --to c"), "current");
     assert_eq!(ask("rinzo list --l"), "--long");
     assert_eq!(ask("rinzo blank f.sdd --n ''"), "");
     assert_eq!(ask("rinzo list ''"), "");
@@ -73,6 +75,7 @@ fn zsh_completes() {
     ask("rinzo sa", "save");
     ask("rinzo list --lo", "--long");
     ask("rinzo completion f", "fish");
+    ask("rinzo convert f.sdd --to c", "current");
     ask("rinzo list _r", "_rinzo");
     let sourced = "autoload -U compinit; compinit -u -d $PWD/dump2; . ./_rinzo; print $_comps[rinzo]";
     assert_eq!(printed("zsh", "zsh", &folder, &["-f", "-c", sourced]), "_rinzo\n");
@@ -89,6 +92,7 @@ fn fish_completes() {
     assert_eq!(ask("rinzo sa"), "save\tsave a scan to a slot; over another scan only with --replace\n");
     assert_eq!(ask("rinzo list --lo"), "--long\tadd each scan's bytes, kind and source\n");
     assert_eq!(ask("rinzo completion z"), "zsh\n");
+    assert!(ask("rinzo convert f.sdd --to ").starts_with("current\t"));
     assert!(ask("rinzo list c.").contains("c.fish"));
     assert!(!ask("rinzo ").contains("c.fish"));
 }
@@ -101,7 +105,7 @@ fn every_command_and_option_is_completed_and_in_the_man_page() {
     let manual = wrote(&folder, &["manual"]);
     let overview = wrote(&folder, &["--help"]);
     let commands: Vec<&str> = overview.lines().filter_map(|line| line.strip_prefix("  ")?.split(' ').next()).collect();
-    assert_eq!(commands.len(), 14, "{commands:?}");
+    assert_eq!(commands.len(), 15, "{commands:?}");
     for command in commands {
         assert!(texts.iter().all(|text| text.contains(command)), "{command}");
         assert!(manual.contains(&format!(".SS \\fB{command}\\fR")), "{command}");

@@ -65,6 +65,9 @@ fn progress_is_shown_on_a_terminal_and_wiped_away() {
         (&["check", "f.sdd", "--scans"][..], "reading scan 1 of 1024"),
         (&["list", "f.sdd", "--long"], "looking into scan 1 of 1024"),
         (&["show", "long.sdd", "1"], "written: 1.0 MB"),
+        (&["convert", "long.sdd", "--to", "old", "--out", "1"], "converting: 1.0 MB"),
+        (&["convert", "long.sdd", "--to", "old", "--out", "2"], "comparing: 1.0 MB"),
+        (&["convert", "f.sdd", "--to", "old", "--out", "3"], "comparing slot 1 of 1024"),
     ] {
         let said = said_on_terminal(&folder, words);
         assert!(said.contains(part), "{words:?}: {said:?}");
@@ -89,7 +92,10 @@ fn nothing_is_shown_in_a_pipe() {
     let folder = folder("pipe");
     many_scans(&folder);
     one_long_run(&folder, 9_000);
-    for words in [&["check", "f.sdd", "--scans"][..], &["list", "f.sdd", "--long"], &["show", "long.sdd", "1"]] {
+    let convert = ["convert", "long.sdd", "--to", "old", "--out", "1"];
+    for words in
+        [&["check", "f.sdd", "--scans"][..], &["list", "f.sdd", "--long"], &["show", "long.sdd", "1"], &convert]
+    {
         let output = run(&folder, words);
         assert!(output.status.success());
         assert_eq!(said(&output), "", "{words:?}");

@@ -2,7 +2,8 @@
 
 use super::form;
 use crate::file::device::Device;
-use crate::file::lent::{Lent, cannot_be_read};
+use crate::file::lent::Lent;
+use crate::file::pieces::pieces;
 use crate::say::failure::Failure;
 use crate::say::json::Json;
 use crate::say::out::Out;
@@ -14,9 +15,6 @@ use std::fs::{File, OpenOptions};
 use std::io::{ErrorKind, Write};
 use std::os::unix::fs::MetadataExt;
 use std::path::Path;
-
-/// How much is handed on at a time.
-const PIECE: usize = 256 << 10;
 
 pub fn show(args: &Args, out: &Out) -> Result<(), Failure> {
     write_out(args, out, |lent, slot| lent.shown(slot))
@@ -38,7 +36,9 @@ fn write_out(args: &Args, out: &Out, part: fn(&mut Lent, u64) -> Result<Span, Fa
     }
     let mut lent = Lent::to_read(args.path(0), out)?;
     let span = part(&mut lent, slot)?;
-    let Some(to) = to else { return pieces(&lent.device, &span, out, |bytes| out.bytes(bytes)) };
+    let Some(to) = to else {
+        return pieces(&lent.device, &span, Progress::of_bytes(out, "written"), |_, bytes| out.bytes(bytes));
+    };
     let form = lent.sizes()?.form;
     write_file(&lent.device, to, args.has("force"), &span, out)?;
     out.answer(
@@ -52,26 +52,6 @@ fn write_out(args: &Args, out: &Out, part: fn(&mut Lent, u64) -> Result<Span, Fa
             ])
         },
     )
-}
-
-/// Reads a part in pieces, and hands each on.
-fn pieces(
-    device: &Device,
-    part: &Span,
-    out: &Out,
-    mut hand_on: impl FnMut(&[u8]) -> Result<(), Failure>,
-) -> Result<(), Failure> {
-    let mut progress = Progress::of_bytes(out, "written");
-    let mut piece = vec![0; PIECE.min(part.len())];
-    let mut at = part.start;
-    while at < part.end {
-        let len = PIECE.min(part.end - at);
-        device.read(at as u64, &mut piece[..len]).map_err(|error| cannot_be_read(device, &error))?;
-        hand_on(&piece[..len])?;
-        progress.went_on(len as u64);
-        at += len;
-    }
-    Ok(())
 }
 
 /// Writes a new file; one that is there only by force, and never the SDD file itself.
@@ -90,7 +70,8 @@ fn write_file(device: &Device, to: &Path, force: bool, part: &Span, out: &Out) -
     let failed = |error| {
         Failure::Io(format!("{}: it could not be written, and nothing of it is left: {error}", shown::name(to)))
     };
-    let written = pieces(device, part, out, |bytes| made.write_all(bytes).map_err(failed));
+    let progress = Progress::of_bytes(out, "written");
+    let written = pieces(device, part, progress, |_, bytes| made.write_all(bytes).map_err(failed));
     let written = written.and_then(|()| made.sync_all().map_err(failed));
     if written.is_err() && made.metadata().is_ok_and(|about| about.is_file()) {
         // half a scan is no scan

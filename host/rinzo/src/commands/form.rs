@@ -3,6 +3,14 @@
 use crate::say::json::Json;
 use sdd::{Entry, Form};
 
+/// The magic number of a scan that is SDD version 1.
+pub const VERSION_ONE: i16 = 2;
+
+/// The form of this name.
+pub fn of(word: &str) -> Option<Form> {
+    [Form::Old, Form::Current].into_iter().find(|form| name(*form) == word)
+}
+
 /// One word for a form.
 pub fn name(form: Form) -> &'static str {
     match form {
@@ -28,7 +36,7 @@ pub fn marked(text: String, form: Form) -> String {
 pub fn magic(magic: i16) -> String {
     let meaning = match magic {
         1 => "IEEE KEEP, which is shown and not read",
-        2 => "SDD version 1",
+        VERSION_ONE => "SDD version 1",
         _ => "of no known meaning, so the scan is shown and not read",
     };
     format!("{magic} ({meaning})")

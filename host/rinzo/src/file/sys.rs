@@ -1,11 +1,13 @@
 //! The few calls of the system that std does not have. All `unsafe` of the program is here and in `window`.
 
 use memmap2::MmapOptions;
-use std::ffi::c_int;
+use std::ffi::{CString, c_int};
 use std::fs::File;
 use std::io;
 use std::ops::Range;
 use std::os::fd::AsRawFd;
+use std::os::unix::ffi::OsStrExt;
+use std::path::Path;
 use std::sync::atomic::{AtomicBool, Ordering::Relaxed};
 
 /// A write past the limit on file sizes is to come back as an error, not to end the program.
@@ -84,6 +86,22 @@ pub fn allocate(file: &File, len: u64) -> io::Result<()> {
         return Ok(());
     }
     Err(io::Error::last_os_error())
+}
+
+/// Gives a file a name that no other file has. Where the file system cannot see to that, it is looked at before.
+pub fn rename_new(from: &Path, to: &Path) -> io::Result<()> {
+    let (one, two) = (CString::new(from.as_os_str().as_bytes())?, CString::new(to.as_os_str().as_bytes())?);
+    // SAFETY: two names that end with a zero.
+    let renamed = unsafe {
+        let here = libc::AT_FDCWD;
+        libc::syscall(libc::SYS_renameat2, here, one.as_ptr(), here, two.as_ptr(), libc::RENAME_NOREPLACE)
+    };
+    match io::Error::last_os_error() {
+        _ if renamed == 0 => Ok(()),
+        error if !matches!(error.raw_os_error(), Some(libc::EINVAL | libc::ENOSYS)) => Err(error),
+        _ if to.symlink_metadata().is_ok() => Err(io::ErrorKind::AlreadyExists.into()),
+        _ => std::fs::rename(from, to),
+    }
 }
 
 /// Whether the file system keeps its files in memory alone.

@@ -207,17 +207,26 @@ mod tests {
         file
     }
 
-    /// The like of it in the old form, with every magic number from 0 to 4.
-    fn busy_old_file() -> Vec<u8> {
+    /// The like of it in the old form, with these magic numbers.
+    fn busy_old_file(magic: fn(usize) -> i16) -> Vec<u8> {
         let scans: Vec<Vec<u8>> = (1..=5).map(|slot| sample::scan(300 + 400 * slot, slot as u8)).collect();
         let scans: Vec<sample::OldScan> = (1..)
             .zip(&scans)
-            .map(|(slot, bytes)| sample::OldScan { slot, magic: slot as i16 - 1, about: [7; 54], bytes })
+            .map(|(slot, bytes)| sample::OldScan { slot, magic: magic(slot), about: [7; 54], bytes })
             .collect();
         let mut file = sample::old_file(4, 60, &scans);
         let used = sdd::open(&file).map(|sizes| (sizes.n + sizes.d) * sizes.l).unwrap();
         file[used as usize..].fill(0xa5);
         file
+    }
+
+    /// Bootstrap and index in the other form, both ways.
+    fn conversions(file: &[u8]) -> [Result<Vec<u8>, sdd::Refusal>; 2] {
+        let calls: [fn(&[u8], &mut [u8]) -> Result<(), sdd::Refusal>; 2] = [sdd::to_current, sdd::to_old];
+        calls.map(|call| {
+            let mut out = vec![0xa5; file.len()];
+            call(file, &mut out).map(|()| out)
+        })
     }
 
     /// All that can be asked of a file without a look at its data.
@@ -230,12 +239,14 @@ mod tests {
                 sdd::keep(file, &scan, &About::of(&[1; 54])),
                 sdd::clear(file, slot),
             ),
+            conversions(file),
         )
     }
 
     #[test]
     fn the_library_answers_on_a_window_as_on_the_file() {
-        for whole in [busy_file(), busy_old_file()] {
+        // every magic number from 0 to 4; and SDD version 1 alone, which can be converted
+        for whole in [busy_file(), busy_old_file(|slot| slot as i16 - 1), busy_old_file(|_| 2)] {
             answers_are_the_same(&whole);
         }
     }

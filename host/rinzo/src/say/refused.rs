@@ -18,12 +18,14 @@ pub struct Refused {
     slots: Option<u64>,
     /// All bytes of the file are zeros.
     is_zeros: bool,
+    /// What is wrong and what to do, where more is known than the number says.
+    cause: Option<String>,
 }
 
 impl Refused {
     /// A refusal of this file.
     pub fn of(path: &Path, why: Refusal) -> Refused {
-        Refused { why, path: path.to_path_buf(), slot: None, slots: None, is_zeros: false }
+        Refused { why, path: path.to_path_buf(), slot: None, slots: None, is_zeros: false, cause: None }
     }
 
     /// The same, of the slot that was asked for.
@@ -41,11 +43,17 @@ impl Refused {
         Refused { is_zeros, ..self }
     }
 
+    /// The same, for a cause that is known.
+    pub fn because(self, cause: String) -> Refused {
+        Refused { cause: Some(cause), ..self }
+    }
+
     /// The slot that the refusal is about, where it is about one.
     fn its_slot(&self) -> Option<u64> {
         match self.why {
             Refusal::BadEntry(slot) | Refusal::EntryAboveUsed(slot) | Refusal::SharedRecord(slot) => Some(slot.into()),
-            Refusal::NoSuchSlot | Refusal::EmptySlot | Refusal::BadScan(_) | Refusal::NotVersionOne => self.slot,
+            Refusal::NoSuchSlot | Refusal::EmptySlot | Refusal::BadScan(_) => self.slot,
+            Refusal::NotVersionOne | Refusal::NotConvertible => self.slot,
             _ => None,
         }
     }
@@ -70,6 +78,9 @@ impl fmt::Display for Refused {
                 f,
                 "refused {number}: {file} is empty, all its bytes are zeros: if nothing is missing in it, blank it with --force"
             ),
+            _ if self.cause.is_some() => {
+                write!(f, "refused {number}: {file}: {}", self.cause.as_deref().unwrap_or_default())
+            }
             (Refusal::NoSuchSlot, Some(slot)) if self.slots.is_some() => write!(
                 f,
                 "refused 9: {file} has slots 1 to {}, and {slot} is none of them: give one of those",

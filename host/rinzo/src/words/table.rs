@@ -31,6 +31,7 @@ pub enum Verb {
     Classes,
     Clear,
     Completion,
+    Convert,
     Demo,
     Entry,
     Install,
@@ -105,7 +106,8 @@ X is a number, or the bits of one in hexadecimal with all their digits, as 0x7fc
 const SAVE_DETAILS: &str = "A save that did not say `saved` is done again, to the same slot.";
 
 /// Of every command that changes a file.
-const OLD_DETAILS: &str = "A file of the old form, from before 1993, is not changed: it is refused with 2.";
+const OLD_DETAILS: &str = "A file of the old form, from before 1993, is not changed: it is refused with 2.
+`rinzo convert` makes a second file of it that can be.";
 
 const KEEP_DETAILS: &str =
     "A keep that did not say `saved`: list the file first. Where the scan is listed, save it to that slot;
@@ -118,8 +120,26 @@ const READ_DETAILS: &str =
 /// The shells that `completion` knows: the word SHELL.
 pub const SHELLS: [&str; 3] = ["bash", "zsh", "fish"];
 
+/// The forms that a file is converted to: the value FORM.
+pub const FORMS: [&str; 2] = ["old", "current"];
+
+const CONVERT: [Opt; 3] = [
+    opt("to", "FORM", "the form that it is to have: old or current"),
+    opt("out", "FILE", "the new file; never FILE itself"),
+    flag("force", "let --out replace a file"),
+];
+
+const CONVERT_DETAILS: &str =
+    "Bootstrap and index are written in the other form; the scans are the same bytes. FILE stays as it is.
+The new file has its name only once it was read back, opens, and shows the same list, entries and scans.";
+
+/// Of what cannot be converted.
+const NOT_CONVERTED_DETAILS: &str =
+    "Refused with 19: a file that has the form already, that holds individual records, that has a scan which is
+not SDD version 1, or a number too large for the old form. The sentence says which it is.";
+
 /// All commands, in the order of the overview.
-pub static COMMANDS: [Command; 14] = [
+pub static COMMANDS: [Command; 15] = [
     Command {
         name: "list",
         verb: Verb::List,
@@ -213,6 +233,15 @@ pub static COMMANDS: [Command; 14] = [
         options: &[&SIZES],
     },
     Command {
+        name: "convert",
+        verb: Verb::Convert,
+        group: Group::Make,
+        words: &["FILE"],
+        summary: "make a second file of the old or the current form, --to FORM --out FILE",
+        details: &[CONVERT_DETAILS, NOT_CONVERTED_DETAILS],
+        options: &[&CONVERT],
+    },
+    Command {
         name: "demo",
         verb: Verb::Demo,
         group: Group::Make,
@@ -256,6 +285,15 @@ fish: into ~/.config/fish/completions/rinzo.fish."],
 /// The command of this name.
 pub fn find(name: &str) -> Option<&'static Command> {
     COMMANDS.iter().find(|command| command.name == name)
+}
+
+/// The words that can stand for a word or a value, by its name in the table, where they are few.
+pub fn choices(name: &str) -> Option<&'static [&'static str]> {
+    match name {
+        "SHELL" => Some(&SHELLS),
+        "FORM" => Some(&FORMS),
+        _ => None,
+    }
 }
 
 /// Whether a word or a value, by its name in the table, is a file's.

@@ -92,7 +92,7 @@ pub fn shim(folder: &Path, lines: &str) -> PathBuf {
 /// A shim under which a call on a file fails in its turn, from 1 on, as it does on a disk that is full.
 pub fn failing(call: &str, turn: u32) -> String {
     let (kind, words, rest) = match call {
-        "fdatasync" => ("int", "int fd", "fd"),
+        "fdatasync" | "fsync" => ("int", "int fd", "fd"),
         _ => ("ssize_t", "int fd, const void *at, size_t len, off_t from", "fd, at, len, from"),
     };
     format!(

@@ -1,6 +1,6 @@
 //! For bash.
 
-use crate::words::table::{COMMANDS, Command, SHELLS, is_file};
+use crate::words::table::{COMMANDS, Command, SHELLS, choices, is_file};
 
 /// What stands in the place of a command: the commands, and the words that are none.
 fn first_words() -> String {
@@ -8,17 +8,24 @@ fn first_words() -> String {
     names.chain(["help", "--help", "--version"]).collect::<Vec<_>>().join(" ")
 }
 
-/// The options of all commands whose values are files, or are none, without repeats.
-fn options_with_values(files: bool) -> Vec<String> {
+/// The options of all commands whose values are of a kind, as a pattern, without repeats.
+fn options_with(kind: impl Fn(&str) -> bool) -> String {
     let mut names: Vec<String> = COMMANDS
         .iter()
         .flat_map(Command::all_options)
-        .filter(|option| option.value.is_some_and(|value| is_file(value) == files))
+        .filter(|option| option.value.is_some_and(&kind))
         .map(|option| format!("--{}", option.name))
         .collect();
     names.sort();
     names.dedup();
-    names
+    names.join(" | ")
+}
+
+/// The options whose values are one of a few words, each with those.
+fn options_with_choices() -> String {
+    let all = COMMANDS.iter().flat_map(Command::own_options);
+    let few = all.filter_map(|option| Some((option.name, choices(option.value?)?)));
+    few.map(|(name, words)| format!("    --{name}) compopt +o default; words='{}' ;;\n", words.join(" "))).collect()
 }
 
 /// An empty reply means the names of files, unless that is turned off.
@@ -30,16 +37,19 @@ _rinzo() {{
     COMPREPLY=()
     case $before in
     {files}) return ;;
-    {others}) compopt +o default; return ;;
+{few}    {others}) compopt +o default; return ;;
     esac
-    if [ \"$COMP_CWORD\" -eq 1 ]; then
+    if [ -n \"$words\" ]; then
+        :
+    elif [ \"$COMP_CWORD\" -eq 1 ]; then
         words='{first}'
         compopt +o default
     else
         case ${{COMP_WORDS[1]}} in
 ",
-        files = options_with_values(true).join(" | "),
-        others = options_with_values(false).join(" | "),
+        files = options_with(is_file),
+        few = options_with_choices(),
+        others = options_with(|value| !is_file(value) && choices(value).is_none()),
         first = first_words()
     );
     for command in &COMMANDS {

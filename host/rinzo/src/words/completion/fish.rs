@@ -1,6 +1,6 @@
 //! For fish.
 
-use crate::words::table::{COMMANDS, SHELLS, is_file};
+use crate::words::table::{COMMANDS, SHELLS, choices, is_file};
 
 fn help(help: &str) -> String {
     format!("'{}'", help.replace('\\', "\\\\").replace('\'', "\\'"))
@@ -21,9 +21,12 @@ pub fn lines() -> String {
         }
         for option in command.all_options() {
             let value = match option.value {
-                None => "",
-                Some(value) if is_file(value) => " -r -F",
-                Some(_) => " -x",
+                None => String::new(),
+                Some(value) if is_file(value) => " -r -F".to_string(),
+                Some(value) => match choices(value) {
+                    Some(words) => format!(" -x -a '{}'", words.join(" ")),
+                    None => " -x".to_string(),
+                },
             };
             text += &format!("{seen} -l {}{value} -d {}\n", option.name, help(option.help));
         }

@@ -1,6 +1,6 @@
 //! For zsh.
 
-use crate::words::table::{COMMANDS, Opt, SHELLS, is_file};
+use crate::words::table::{COMMANDS, Opt, choices, is_file};
 
 /// A word as `_arguments` wants it: what it is called, and how it is completed.
 fn word(name: &str) -> String {
@@ -10,10 +10,15 @@ fn word(name: &str) -> String {
         _ if name.ends_with("...") => "*:",
         _ => ":",
     };
-    match bare {
-        _ if is_file(name) => format!("'{mark}{bare}:_files'"),
-        "SHELL" => format!("'{mark}{bare}:({})'", SHELLS.join(" ")),
-        _ => format!("'{mark}{bare}: '"),
+    format!("'{mark}{}'", named(bare))
+}
+
+/// What a word or a value is called, and how it is completed.
+fn named(name: &str) -> String {
+    match choices(name) {
+        _ if is_file(name) => format!("{name}:_files"),
+        Some(words) => format!("{name}:({})", words.join(" ")),
+        None => format!("{name}: "),
     }
 }
 
@@ -23,11 +28,7 @@ fn help(help: &str) -> String {
 }
 
 fn option(option: &Opt) -> String {
-    let value = match option.value {
-        None => String::new(),
-        Some(value) if is_file(value) => format!(":{value}:_files"),
-        Some(value) => format!(":{value}: "),
-    };
+    let value = option.value.map_or(String::new(), |value| format!(":{}", named(value)));
     format!("'--{}[{}]{value}'", option.name, help(option.help))
 }
 
