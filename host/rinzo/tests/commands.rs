@@ -295,7 +295,7 @@ fn help_is_everywhere() {
     let folder = folder("help");
     assert!(wrote(&folder, &["--help"]).contains("usage: rinzo COMMAND"));
     let commands = ["blank", "check", "list", "entry", "classes", "show", "read", "save", "keep", "clear", "demo"];
-    for command in commands.into_iter().chain(["completion", "manual", "install"]) {
+    for command in commands.into_iter().chain(["completion", "manual", "install", "convert"]) {
         for words in [&[command, "--help"][..], &["help", command], &[command, "x", "-h"]] {
             assert!(wrote(&folder, words).starts_with(&format!("usage: rinzo {command} ")));
         }
@@ -309,7 +309,10 @@ fn help_groups_the_commands() {
     for (heading, commands) in [
         ("look at a file:", &["list", "check", "entry", "classes", "show", "read"][..]),
         ("change a file:", &["save", "keep", "clear"]),
-        ("make a file, and what goes with the program:", &["blank", "demo", "install", "completion", "manual"]),
+        (
+            "make a file, and what goes with the program:",
+            &["blank", "convert", "demo", "install", "completion", "manual"],
+        ),
     ] {
         let group = groups.iter().find(|group| group.starts_with(heading)).unwrap_or_else(|| panic!("{help}"));
         let named: Vec<&str> = group.lines().skip(1).map(|line| line.trim().split(' ').next().unwrap()).collect();

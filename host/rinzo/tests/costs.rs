@@ -108,7 +108,7 @@ fn limited(folder: &Path, bytes: u64, group: Option<&Group>, words: &[&str]) -> 
 }
 
 #[test]
-fn a_file_larger_than_memory_is_opened_listed_and_saved_to() {
+fn a_file_larger_than_memory_is_opened_listed_saved_to_and_converted() {
     let folder = folder("larger_than_memory");
     let [_, large] = small_and_large(&folder);
     let allowed = 16 * MIB;
@@ -116,13 +116,18 @@ fn a_file_larger_than_memory_is_opened_listed_and_saved_to() {
     let group = Group::new(allowed);
     println!("memory is {}", if group.is_some() { "limited by a control group" } else { "measured" });
     let scan = scan_file(&folder, 60_000, 3);
-    for words in
-        [&["check", large][..], &["list", large, "--long"], &["save", large, "9", &scan], &["show", large, "9"]]
-    {
+    for words in [
+        &["check", large][..],
+        &["list", large, "--long"],
+        &["save", large, "9", &scan],
+        &["show", large, "9"],
+        &["convert", large, "--to", "old", "--out", "old.sdd"],
+    ] {
         let cost = cost::of(&mut limited(&folder, allowed, group.as_ref(), words));
         assert!(cost.peak < allowed, "{words:?}: {cost:?}");
     }
     assert!(wrote(&folder, &["list", large]).ends_with("\n9 136 253\n"));
+    assert!(wrote(&folder, &["list", "old.sdd"]).ends_with("\n9 136 253\n"));
     fs::remove_dir_all(&folder).unwrap();
 }
 

@@ -220,10 +220,12 @@ mod tests {
         file
     }
 
+    /// A call that converts.
+    type Convert = fn(&[u8], &mut [u8]) -> Result<(), sdd::Refusal>;
+
     /// Bootstrap and index in the other form, both ways.
     fn conversions(file: &[u8]) -> [Result<Vec<u8>, sdd::Refusal>; 2] {
-        let calls: [fn(&[u8], &mut [u8]) -> Result<(), sdd::Refusal>; 2] = [sdd::to_current, sdd::to_old];
-        calls.map(|call| {
+        [sdd::to_current as Convert, sdd::to_old].map(|call| {
             let mut out = vec![0xa5; file.len()];
             call(file, &mut out).map(|()| out)
         })

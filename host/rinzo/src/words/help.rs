@@ -12,6 +12,7 @@ pub fn overview() -> String {
         }
     }
     text += "\nFiles of the old form, from before 1993, are looked at like any other, and not changed.\n";
+    text += "`rinzo convert` makes a second file of one, of the current form, and the other way.\n";
     text + "`rinzo COMMAND --help` says more; after -- a word is no option.\n" + &statuses()
 }
 

@@ -15,6 +15,7 @@ rinzo \\- SDD files: look at them, save scans to them
 .SH DESCRIPTION
 An SDD file holds scans in slots.
 Files of the old form, from before 1993, are looked at like any other, and not changed.
+\\fBrinzo convert\\fR makes a second file of one, of the current form, and the other way.
 Output is plain text, or with \\fB\\-\\-json\\fR one JSON object a line.
 A save has said \\fBsaved\\fR only once the scan was read back from the device and is whole.
 After \\fB\\-\\-\\fR a word is no option.
