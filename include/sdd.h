@@ -262,8 +262,8 @@ sdd_span sdd_class(const uint8_t *run, size_t run_len, uint64_t number);
  * Lent: a run of bytes, to look at. Refusals: 11 with the first of rules 1 to 5 that it breaks. */
 sdd_span sdd_data(const uint8_t *run, size_t run_len);
 
-/* Makes a file with no scans, of the current form (there is no call that makes an old one): writes N
- * records (bootstrap and an empty index) and nothing beyond.
+/* Makes a file with no scans, of the current form (sdd_to_old makes an old one of it): writes N records
+ * (bootstrap and an empty index) and nothing beyond.
  * Lent: the file, whose first n x l bytes are written where the call is accepted.
  * Refusals: 16. */
 sdd_refusal sdd_blank(uint8_t *file, size_t file_len, uint64_t n, uint64_t l, uint64_t m);
@@ -318,8 +318,8 @@ sdd_stepped sdd_step(uint8_t *file, size_t file_len, const uint8_t *scan, size_t
  * Record 1 gets the eight words and then zeros. An entry gets first and last record, its bytes 8 to 59 as
  * they are, the position code in bytes 60 and 61, and then zeros; an empty entry gets zeros, whatever it
  * held.
- * Lent: the file, to look at; `out`, whose first n x l bytes are written where the call is accepted, and
- * nothing beyond.
+ * Lent: the file, to look at; `out`, other memory, whose first n x l bytes are written where the call is
+ * accepted, and nothing beyond.
  * Refusals: open's own, 1 and then 3 to 8; then 17 where out_len is less than n x l, also of a file that has
  * the current form already; then 19 where it has, or where a scan's magic number is not 2 (an empty entry's
  * is not asked). */

@@ -1,4 +1,5 @@
-//! Scans that obey the rules, for tests and for the demonstration; and files of the form from before 1993, which no call makes.
+//! Scans that obey the rules, for tests and for the demonstration; and files of the form from before 1993, with padding and
+//! magic numbers that no call writes.
 
 /// HEADLEN of a sample: its thirteenth class is the Real*8 word 32.
 pub const HEAD: usize = 256;

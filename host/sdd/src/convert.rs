@@ -8,8 +8,8 @@ use crate::refusal::Refusal;
 /// N x L bytes of `out`, and nothing beyond. Refusals 1, 3 to 8, then 17 where `out` has fewer bytes, then 19 where the
 /// file has the current form already or an old entry says that its scan is not of SDD version 1.
 ///
-/// The data section is the same in both forms. So what was written, with the file's own bytes from N x L on behind it, is
-/// the converted file; lend as many bytes as the file has, with a copy of it in them, to have it at once:
+/// The data section is the same in both forms. So what was written, with the file's own bytes from N x L on behind it,
+/// is the converted file; lend a copy of the file, and it becomes that:
 ///
 /// ```
 /// # let file = sample::old_file(3, 5, &[sample::OldScan { slot: 2, magic: 2, about: [7; 54], bytes: &[1; 600] }]);
@@ -29,9 +29,9 @@ pub fn to_current(file: &[u8], out: &mut [u8]) -> Result<(), Refusal> {
     accepted(why, ())
 }
 
-/// Converts a file of the current form to the old one, as [`to_current`] does the other way. Refusals 1, 3 to 8, then 17,
-/// then 19 where the file has the old form already, holds individual records, or has a number that the old form cannot
-/// hold: D or a record of a scan above 32,767, or a counter above 65,535.
+/// Converts a file of the current form to the old one, as [`to_current`] does the other way. Refusals 1, 3 to 8, then
+/// 17, then 19 where the file has the old form already, holds individual records, or has a number that the old form
+/// cannot hold: D or a record of a scan above 32,767, or a counter above 65,535.
 ///
 /// Home again it shows the same, and is the same where its padding and its empty entries were zeros:
 ///

@@ -1,4 +1,4 @@
-//! Why a file cannot be converted: which of the causes of 19 it is. The library's number has no value that would say so.
+//! Why a file cannot be converted: which of the causes of 19 it is. The library's number has no value to say so.
 
 use super::form;
 use crate::file::lent::Lent;

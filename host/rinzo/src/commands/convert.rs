@@ -1,4 +1,4 @@
-//! `rinzo convert`: a file in the other form, as a second file, which has its name only once it was read back and compared.
+//! `rinzo convert`: a second file in the other form, which has its name only once it was read back and compared.
 
 use super::{cause, form};
 use crate::file::beside::Beside;
@@ -106,8 +106,8 @@ impl Conversion<'_> {
         device.flush_with_length().map_err(failed)
     }
 
-    /// Holds what was read back to what was written and to the file: the same sizes but the form, the same list, the same
-    /// entries but for the magic number, and the same bytes behind them.
+    /// Holds what was read back to what was written and to the file: the same sizes but the form, the same list, the
+    /// same entries but for the magic number, and the same bytes behind them.
     fn compare(&self, device: &Device) -> Result<Way, Failure> {
         let (window, mut way) = read_back(device, self.out)?;
         if !window.bytes().starts_with(&self.head) || !self.shows_the_same(window.bytes()) {

@@ -21,8 +21,8 @@ pub struct Beside {
 }
 
 impl Beside {
-    /// For a file of this name that is made from another one: it must not be there, or goes by force; and it is never that
-    /// other one itself.
+    /// For a file of this name that is made from another one: it must not be there, or goes by force; and it is never
+    /// that other one itself.
     pub fn new(to: &Path, from: &Device, force: bool) -> Result<Beside, Failure> {
         let replaced = replaced(to, from, force)?;
         let failed = |error| Failure::of(to, &error);

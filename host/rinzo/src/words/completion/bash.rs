@@ -28,9 +28,19 @@ fn options_with_choices() -> String {
     few.map(|(name, words)| format!("    --{name}) compopt +o default; words='{}' ;;\n", words.join(" "))).collect()
 }
 
+/// The options of each command, and the commands that there is help for.
+fn words_by_command() -> String {
+    let of = |command: &Command| {
+        let options: Vec<String> = command.all_options().map(|option| format!("--{}", option.name)).collect();
+        format!("        {}) words='{}' ;;\n", command.name, options.join(" "))
+    };
+    let names: Vec<&str> = COMMANDS.iter().map(|command| command.name).collect();
+    COMMANDS.iter().map(of).collect::<String>() + &format!("        help) words='{}' ;;\n", names.join(" "))
+}
+
 /// An empty reply means the names of files, unless that is turned off.
 pub fn lines() -> String {
-    let mut text = format!(
+    format!(
         "# rinzo's words for bash
 _rinzo() {{
     local word=${{COMP_WORDS[COMP_CWORD]}} before=${{COMP_WORDS[COMP_CWORD - 1]}} words=''
@@ -46,20 +56,8 @@ _rinzo() {{
         compopt +o default
     else
         case ${{COMP_WORDS[1]}} in
-",
-        files = options_with(is_file),
-        few = options_with_choices(),
-        others = options_with(|value| !is_file(value) && choices(value).is_none()),
-        first = first_words()
-    );
-    for command in &COMMANDS {
-        let options: Vec<String> = command.all_options().map(|option| format!("--{}", option.name)).collect();
-        text += &format!("        {}) words='{}' ;;\n", command.name, options.join(" "));
-    }
-    let names: Vec<&str> = COMMANDS.iter().map(|command| command.name).collect();
-    text += &format!("        help) words='{}' ;;\n        esac\n", names.join(" "));
-    text + &format!(
-        "        case ${{COMP_WORDS[1]}},$word in
+{by_command}        esac
+        case ${{COMP_WORDS[1]}},$word in
         completion,[!-]* | completion,) words='{shells}' ;;
         help,* | *,-*) ;;
         *) return ;;
@@ -68,6 +66,11 @@ _rinzo() {{
     mapfile -t COMPREPLY < <(compgen -W \"$words\" -- \"$word\")
 }}
 complete -o default -F _rinzo rinzo",
+        files = options_with(is_file),
+        few = options_with_choices(),
+        others = options_with(|value| !is_file(value) && choices(value).is_none()),
+        first = first_words(),
+        by_command = words_by_command(),
         shells = SHELLS.join(" ")
     )
 }
