@@ -6,7 +6,7 @@ use common::{failing, folder, paper_file, refused, rinzo, run, said, scan_file, 
 use sample::{OldScan, old_file, scan};
 use std::collections::BTreeSet;
 use std::fs;
-use std::os::unix::fs::symlink;
+use std::os::unix::fs::{MetadataExt, PermissionsExt, symlink};
 use std::path::Path;
 
 /// An old file with N 3 and two scans of this magic number, in slots 1 and 9, and zeros where nothing is said.
@@ -224,6 +224,25 @@ fn a_file_that_is_there_goes_by_force_alone() {
 }
 
 #[test]
+fn nobody_reads_it_who_may_not_read_the_file() {
+    let folder = folder("convert_mode");
+    old(&folder, 2);
+    let mode = |name: &str| fs::metadata(folder.join(name)).unwrap().mode() & 0o777;
+    let set = |name: &str, mode| fs::set_permissions(folder.join(name), fs::Permissions::from_mode(mode)).unwrap();
+    set("old.sdd", 0o600);
+    convert(&folder, "old.sdd", "current", "mine");
+    assert_eq!(mode("mine"), 0o600);
+    // a copy of a file that is only to be read can be worked on
+    set("old.sdd", 0o444);
+    convert(&folder, "old.sdd", "current", "again");
+    assert_eq!(mode("again") & 0o600, 0o600);
+    // and one that replaces another keeps what that one allows
+    set("mine", 0o640);
+    wrote(&folder, &["convert", "old.sdd", "--to", "current", "--out", "mine", "--force"]);
+    assert_eq!(mode("mine"), 0o640);
+}
+
+#[test]
 fn wrong_words_are_named() {
     let folder = folder("convert_words");
     old(&folder, 2);
@@ -316,7 +335,8 @@ fn what_comes_back_otherwise_is_not_believed() {
         command.args(["convert", "old.sdd", "--to", "current", "--out", "new.sdd"]).env("LD_PRELOAD", shim);
         let output = command.output().unwrap();
         assert_eq!(output.status.code(), Some(74), "{when} {at}: {}", said(&output));
-        let part = "new.sdd: what was read back is not what was written, and nothing of it is left: check the device";
+        let part =
+            "new.sdd: what was read back is not what was written, or old.sdd was changed meanwhile; nothing of it";
         assert!(said(&output).contains(part), "{when} {at}: {}", said(&output));
         assert_eq!(names(&folder), before);
     }

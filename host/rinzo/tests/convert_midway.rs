@@ -123,12 +123,25 @@ fn what_has_come_to_the_name_meanwhile_stays() {
 fn a_file_that_changes_under_it_is_not_converted() {
     let folder = folder("convert_changed");
     let bytes = file(&folder);
-    let child = waiting(&folder, 1);
-    // by a program that does not ask for the lock
-    let mut other = bytes.clone();
-    other[3 * 512 + 300] ^= 1;
-    fs::write(folder.join("f.sdd"), other).unwrap();
-    let (status, said) = go_on(child);
-    assert!(status == Some(74) && said.contains("old.sdd: what was read back is not what was written"), "{said}");
-    assert!(!folder.join("old.sdd").exists() && under_way(&folder).is_none());
+    let changed = |at: usize| {
+        let mut other = bytes.clone();
+        other[at] ^= 1;
+        other
+    };
+    // a scan, an entry, the counter, and the length: by a program that does not ask for the lock
+    for other in [changed(3 * 512 + 300), changed(512 + 20), changed(23), [&bytes[..], &[0; 512]].concat()] {
+        fs::write(folder.join("f.sdd"), &bytes).unwrap();
+        let child = waiting(&folder, 1);
+        // once its scans are copied
+        while fs::read(under_way(&folder).unwrap()).unwrap().get(3 * 512..) != Some(&bytes[3 * 512..]) {
+            std::thread::sleep(Duration::from_millis(2));
+        }
+        fs::write(folder.join("f.sdd"), other).unwrap();
+        let (status, said) = go_on(child);
+        assert!(
+            status == Some(74) && said.contains(", or f.sdd was changed meanwhile; nothing of it is left"),
+            "{said}"
+        );
+        assert!(!folder.join("old.sdd").exists() && under_way(&folder).is_none());
+    }
 }

@@ -3,7 +3,7 @@
 use super::{cause, form};
 use crate::file::beside::Beside;
 use crate::file::device::{Device, Way};
-use crate::file::lent::{Lent, read_back};
+use crate::file::lent::{Lent, cannot_be_read, read_back};
 use crate::file::pieces::pieces;
 use crate::job::drill::Drill;
 use crate::job::interrupt;
@@ -79,6 +79,8 @@ impl Conversion<'_> {
     /// Writes the new file, holds what the device gives back to the file that it was made from, and gives it its name.
     fn make(&self, beside: Beside) -> Result<Made, Failure> {
         let drill = Drill::from_environment();
+        let (sizes, scans) = (self.lent.sizes()?, self.lent.scans()?.len());
+        let file = self.lent.device.path().to_path_buf();
         drill.reached(0);
         self.write(&beside.device)?;
         drill.reached(1);
@@ -86,8 +88,6 @@ impl Conversion<'_> {
         drill.reached(2);
         self.goes_on(&beside.device)?;
         beside.put_in_place()?;
-        let (sizes, scans) = (self.lent.sizes()?, self.lent.scans()?.len());
-        let file = self.lent.device.path().to_path_buf();
         Ok(Made { file, from: sizes.form, to: self.to, scans, bytes: self.lent.window.len(), way })
     }
 
@@ -111,7 +111,7 @@ impl Conversion<'_> {
     fn compare(&self, device: &Device) -> Result<Way, Failure> {
         let (window, mut way) = read_back(device, self.out)?;
         if !window.bytes().starts_with(&self.head) || !self.shows_the_same(window.bytes()) {
-            return Err(differs(device));
+            return Err(self.differs(device));
         }
         let data = self.head.len()..self.lent.bytes().len();
         let mut back = Vec::new();
@@ -119,9 +119,9 @@ impl Conversion<'_> {
             self.goes_on(device)?;
             back.resize(piece.len(), 0);
             way = way.max(device.read_back(at, &mut back).map_err(|error| not_made(device, "read back", &error))?);
-            if back == piece { Ok(()) } else { Err(differs(device)) }
+            if back == piece { Ok(()) } else { Err(self.differs(device)) }
         })?;
-        Ok(way)
+        if self.is_as_it_was()? { Ok(way) } else { Err(self.differs(device)) }
     }
 
     /// Whether the converted file opens and shows every slot as the file does.
@@ -141,6 +141,22 @@ impl Conversion<'_> {
             })
     }
 
+    /// Whether the file has the length and the records 1 to N with which this began. The lock does not bind every program.
+    fn is_as_it_was(&self) -> Result<bool, Failure> {
+        let device = &self.lent.device;
+        let mut head = vec![0; self.head.len()];
+        let len = device.read(0, &mut head).and_then(|()| device.len());
+        let len = len.map_err(|error| cannot_be_read(device, &error))?;
+        Ok(len == self.lent.window.len() && self.lent.bytes().starts_with(&head))
+    }
+
+    /// What was made is not the file in its other form.
+    fn differs(&self, device: &Device) -> Failure {
+        let (name, file) = (shown::name(device.path()), shown::name(self.lent.device.path()));
+        let what = format!("what was read back is not what was written, or {file} was changed meanwhile");
+        Failure::Io(format!("{name}: {what}; nothing of it is left: check the device, and convert {file} again"))
+    }
+
     /// Stops the work after a Ctrl-C.
     fn goes_on(&self, device: &Device) -> Result<(), Failure> {
         if !interrupt::noted() {
@@ -155,13 +171,6 @@ impl Conversion<'_> {
 fn not_made(device: &Device, what: &str, error: &io::Error) -> Failure {
     let name = shown::name(device.path());
     Failure::Io(format!("{name}: it could not be {what}, and nothing of it is left: {error}"))
-}
-
-fn differs(device: &Device) -> Failure {
-    let name = shown::name(device.path());
-    Failure::Io(format!(
-        "{name}: what was read back is not what was written, and nothing of it is left: check the device, and convert the file again"
-    ))
 }
 
 /// The answer. Where nobody reads it, the file is converted all the same.

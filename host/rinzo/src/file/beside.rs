@@ -7,7 +7,7 @@ use crate::say::failure::Failure;
 use crate::say::shown;
 use std::fs::{self, File, OpenOptions};
 use std::io::{self, ErrorKind};
-use std::os::unix::fs::MetadataExt;
+use std::os::unix::fs::{MetadataExt, OpenOptionsExt};
 use std::path::{Path, PathBuf};
 
 /// A new file under a name of its own. It is removed again, unless it was put in its place.
@@ -28,11 +28,17 @@ impl Beside {
         let failed = |error| Failure::of(to, &error);
         // a link to a file stays one: what it leads to is replaced
         let place = if replaced.is_some() { fs::canonicalize(to).map_err(failed)? } else { to.to_path_buf() };
-        let (file, made) = make(&place).map_err(failed)?;
-        if let Some(replaced) = &replaced {
-            replaced.file().metadata().and_then(|old| file.set_permissions(old.permissions())).map_err(failed)?;
-        }
-        Ok(Beside { device: Device::on(file, to), made, to: place, replaced })
+        let mode = from.file().metadata().map_err(failed)?.mode();
+        let (file, made) = make(&place, mode).map_err(failed)?;
+        let beside = Beside { device: Device::on(file, to), made, to: place, replaced };
+        beside.keep_permissions().map_err(failed)?;
+        Ok(beside)
+    }
+
+    /// A file that replaces another may be opened by those who might open that one.
+    fn keep_permissions(&self) -> io::Result<()> {
+        let Some(replaced) = &self.replaced else { return Ok(()) };
+        self.device.file().set_permissions(replaced.file().metadata()?.permissions())
     }
 
     /// Gives it its name, durably. What has come to that name meanwhile is not overwritten.
@@ -84,13 +90,16 @@ fn replaced(to: &Path, from: &Device, force: bool) -> Result<Option<Device>, Fai
     if force { open::to_change(to).map(Some) } else { Err(is_there(to)) }
 }
 
-/// Makes a file in the folder of another, under a name that nobody has.
-fn make(place: &Path) -> io::Result<(File, PathBuf)> {
+/// Makes a file in the folder of another, under a name that nobody has. Nobody else may read it who may not read the file
+/// that it is made from, which has this mode; its owner may change it.
+fn make(place: &Path, mode: u32) -> io::Result<(File, PathBuf)> {
     let id = std::process::id();
+    let mut options = OpenOptions::new();
+    options.read(true).write(true).create_new(true).mode(mode & 0o666 | 0o600);
     let mut turn = 0;
     loop {
         let made = place.with_file_name(format!(".rinzo-{id}-{turn}.new"));
-        match OpenOptions::new().read(true).write(true).create_new(true).open(&made) {
+        match options.open(&made) {
             Ok(file) => return Ok((file, made)),
             Err(error) if error.kind() == ErrorKind::AlreadyExists => turn += 1,
             Err(error) => return Err(error),
