@@ -45,3 +45,8 @@ pub fn plain_half(bytes: &[u8], at: usize) -> u64 {
 pub fn word_bytes(number: u64) -> [u8; 4] {
     u32::try_from(number).unwrap().to_be_bytes()
 }
+
+/// A number as a 16-bit word.
+pub fn half_bytes(number: u64) -> [u8; 2] {
+    u16::try_from(number).unwrap().to_be_bytes()
+}

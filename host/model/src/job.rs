@@ -60,14 +60,8 @@ pub fn blank(file_len: u64, n: u64, l: u64, m: u64) -> Answer<Write> {
         return refuse(16);
     }
     let mut bytes = vec![0; (n * l) as usize];
-    bytes[..32].copy_from_slice(&boot_bytes(&sizes));
+    bytes[..32].copy_from_slice(&sizes.current_words());
     Ok(Write { at: 0, bytes })
-}
-
-/// The eight words of a bootstrap; none is ever written in the old form.
-fn boot_bytes(sizes: &Sizes) -> [u8; 32] {
-    let words = [sizes.n, sizes.d, sizes.l, sizes.m, sizes.u, sizes.counter, sizes.kind, 1];
-    words.map(word_bytes).concat().try_into().unwrap()
 }
 
 /// "Let k be S / L rounded up."
@@ -181,7 +175,7 @@ pub fn step(file: &[u8], scan: &[u8], job: &Job) -> Answer<Stepped> {
         let record = job.first + job.written;
         (record, Write { at: sizes.record_at(record), bytes: padded(scan, &sizes, job.written) }, job.boot)
     } else if job.written == k {
-        let boot = boot_bytes(&renewed(&sizes, job));
+        let boot = renewed(&sizes, job).current_words();
         (1, Write { at: 0, bytes: boot.to_vec() }, boot)
     } else {
         (sizes.home_record(job.slot), Write { at: sizes.home(job.slot), bytes: entry_bytes(&sizes, job) }, job.boot)

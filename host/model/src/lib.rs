@@ -8,6 +8,7 @@
 //! and changes nothing, so that the caller decides what to do with it.
 
 mod bytes;
+mod convert;
 mod index;
 mod job;
 mod look;
@@ -16,6 +17,7 @@ mod scan;
 mod sizes;
 
 pub use bytes::Write;
+pub use convert::{Hindrance, hindrances, to_current, to_old};
 pub use index::{Run, listed, open};
 pub use job::{About, Done, Job, Stepped, blank, clear, keep, save, step};
 pub use look::{Entry, Kind, class, data, entry, list, read, show};

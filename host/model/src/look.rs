@@ -63,7 +63,7 @@ pub(crate) fn occupied(file: &[u8], slot: u64) -> Answer<(Sizes, Run)> {
 }
 
 /// An entry's position code.
-fn position(entry: &[u8], sizes: &Sizes) -> i16 {
+pub(crate) fn position(entry: &[u8], sizes: &Sizes) -> i16 {
     match sizes.form {
         Form::Old => half(entry, 6),
         Form::Current => half(entry, 60),
@@ -71,7 +71,7 @@ fn position(entry: &[u8], sizes: &Sizes) -> i16 {
 }
 
 /// An entry's magic number; "This exists only in the old SDD format index", so it is 0 in the current one.
-fn magic(entry: &[u8], sizes: &Sizes) -> i16 {
+pub(crate) fn magic(entry: &[u8], sizes: &Sizes) -> i16 {
     match sizes.form {
         Form::Old => half(entry, 4),
         Form::Current => 0,

@@ -1,6 +1,6 @@
 //! "Sizes": the bootstrap, and what follows from the sizes alone.
 
-use crate::bytes::{plain_half, widened, word};
+use crate::bytes::{plain_half, widened, word, word_bytes};
 use crate::refusal::{Answer, refuse};
 
 /// No file has more records than this.
@@ -52,6 +52,12 @@ impl Sizes {
         let at = |number: usize| widened(file, 2 * (number - 1));
         let counter = plain_half(file, 10);
         Sizes { n: at(1), d: at(2), l: at(3), m: at(4), u: at(5), counter, kind: 0, form: Form::Old }
+    }
+
+    /// The eight words of a bootstrap of the current form.
+    pub(crate) fn current_words(&self) -> [u8; 32] {
+        let words = [self.n, self.d, self.l, self.m, self.u, self.counter, self.kind, 1];
+        words.map(word_bytes).concat().try_into().unwrap()
     }
 
     /// "Capacity is (N-1) x L / M".
