@@ -20,14 +20,14 @@ int printf(const char *format, ...);
 void exit(int status);
 
 enum { PROT_NONE = 0, PROT_READ = 1, PROT_READ_WRITE = 3, MAP_PRIVATE = 2, MAP_ANONYMOUS = 32 };
-enum { CALLS = 12, UNTOUCHED = 0x5a };
+enum { CALLS = 14, UNTOUCHED = 0x5a };
 /* a file above this size is not compared whole after every call, but when the next one comes */
 #define LARGE ((size_t)1 << 20)
 /* a multiple of every page size there is, on whatever machine the emulator runs */
 #define PAGE ((size_t)65536)
 
-static const char *const NAMES[CALLS] = {"open", "list", "entry", "show", "read", "class",
-                                         "data", "blank", "save", "keep", "clear", "step"};
+static const char *const NAMES[CALLS] = {"open", "list",  "entry", "show", "read",  "class",      "data",
+                                         "blank", "save", "keep",  "clear", "step", "to_current", "to_old"};
 
 static void stop(const char *why) {
   printf("replay: %s\n", why);
@@ -132,8 +132,8 @@ static void put_entry(sdd_entry a) {
 
 /* ---- the calls */
 
-/* What is lent, and beside it the file as it should be. */
-static lent file, wanted, scan, about, out;
+/* What is lent, and beside it the file and the second buffer as they should be. */
+static lent file, wanted, scan, about, out, second, second_wanted;
 
 static sdd_job read_job(void) {
   sdd_job job;
@@ -156,10 +156,11 @@ static void list(void) {
   put_listed(sdd_list(file.at, file.len, (uint32_t *)out.at, out_len));
 }
 
+static void put_refusal(sdd_refusal why) { PUT(why); }
+
 static void blank(void) {
   uint64_t n = number(), l = number(), m = number();
-  sdd_refusal why = sdd_blank(file.at, file.len, n, l, m);
-  PUT(why);
+  put_refusal(sdd_blank(file.at, file.len, n, l, m));
 }
 
 /* Makes the call and leaves its answer in the row. */
@@ -178,6 +179,8 @@ static void make(int call) {
   case 9: put_begun(sdd_keep(file.at, file.len, scan.at, scan.len, about.at)); break;
   case 10: put_begun(sdd_clear(file.at, file.len, number())); break;
   case 11: put_stepped(sdd_step(file.at, file.len, scan.at, scan.len, read_job())); break;
+  case 12: put_refusal(sdd_to_current(file.at, file.len, second.at, second.len)); break;
+  case 13: put_refusal(sdd_to_old(file.at, file.len, second.at, second.len)); break;
   default: stop("the file of cases has a call that is not known");
   }
 }
@@ -194,6 +197,15 @@ static int out_stands(int call) {
   return 1;
 }
 
+/* Whether the second buffer begins with what was converted, and is as it was after it. */
+static int second_stands(void) {
+  size_t len = number();
+  const uint8_t *converted = bytes(len);
+  if (len > second.len) return 0;
+  memcpy(second_wanted.at, converted, len);
+  return memcmp(second.at, second_wanted.at, second.len) == 0;
+}
+
 /* One recorded call: whether answer and memory are as the model has them. */
 static int agrees(int call) {
   size_t len, writes;
@@ -208,6 +220,7 @@ static int agrees(int call) {
   }
   if (wanted.len <= LARGE) same &= memcmp(file.at, wanted.at, wanted.len) == 0;
   same &= out_stands(call);
+  same &= second_stands();
   return same;
 }
 
@@ -240,6 +253,13 @@ static void copy(lent *to, size_t len) {
   memcpy(to->at, bytes(len), len);
 }
 
+static void new_second(size_t len) {
+  const uint8_t *from = next;
+  copy(&second, len);
+  next = from;
+  copy(&second_wanted, len);
+}
+
 static void one_call(void) {
   int call = *bytes(1);
   unsigned long before = agreed;
@@ -257,6 +277,7 @@ static void replay(void) {
     case 'P': patch(); break;
     case 'S': copy(&scan, number()); break;
     case 'A': copy(&about, 54); break;
+    case 'B': new_second(number()); break;
     case 'C': one_call(); break;
     case 'E': last_look(); return;
     default: stop("the file of cases is damaged");
@@ -271,7 +292,7 @@ int main(int count, char **words) {
   next = map_file(words[1]);
   replay();
   for (call = 0; call < CALLS; call++) {
-    printf("  %-6s %lu\n", NAMES[call], made[call]);
+    printf("  %-10s %lu\n", NAMES[call], made[call]);
     all += made[call];
   }
   printf("%lu of %lu calls agreed\n", agreed, all);

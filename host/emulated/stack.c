@@ -1,4 +1,5 @@
-/* stack: makes every call on full files of 4,096 slots in both forms, and holds the stack that each of them used
+/* stack: makes every call on full files of 4,096 slots in both forms, and in the current one also on files that the old
+ * one can say, and holds the stack that each of them used
  * against what sdd.h says that it needs at most. host/bench does the same for the machine's own code.
  */
 #include "sdd.h"
@@ -16,6 +17,7 @@ enum { RUN = 128, OLD_RUN = 7 };
 static uint8_t *file, scan[SCAN], about[54];
 static const size_t LEN = (size_t)ROOM * L;
 static uint32_t out[3 * 4096];
+static uint8_t second[N * L];
 static sdd_job job;
 
 /* ---- a file with scans in rising or falling order, and a scan */
@@ -43,8 +45,8 @@ static void make_boot(int old, uint32_t run) {
   put(file + 28, 4, !old);
 }
 
-static void make_file(int old, int falls) {
-  uint32_t slot, first, run = old ? OLD_RUN : RUN;
+static void make_file(int old, uint32_t run, int falls) {
+  uint32_t slot, first;
   int size = old ? 2 : 4;
   make_boot(old, run);
   for (slot = 1; slot <= USED; slot++) {
@@ -78,6 +80,9 @@ static void step(void) {
   } while (stepped.why.number == 0 && stepped.done == SDD_WROTE);
 }
 
+static void to_current(void) { sdd_to_current(file, LEN, second, N * L); }
+static void to_old(void) { sdd_to_old(file, LEN, second, N * L); }
+
 static const struct {
   const char *name;
   void (*call)(void);
@@ -94,6 +99,8 @@ static const struct {
     {"clear", clear, SDD_STACK_CLEAR},
     {"save", save, SDD_STACK_SAVE},
     {"step", step, SDD_STACK_STEP},
+    {"to_current", to_current, SDD_STACK_TO_CURRENT},
+    {"to_old", to_old, SDD_STACK_TO_OLD},
     {"blank", blank, SDD_STACK_BLANK},
 };
 
@@ -126,13 +133,13 @@ int main(void) {
   make_scan(scan, 0);
   put(scan + 40, 8, 0x40efe00000000000); /* 65,280 */
   /* the old form first: a job is left only by the current one */
-  for (kind = 0; kind < 4; kind++) {
-    make_file(kind < 2, kind % 2);
+  for (kind = 0; kind < 6; kind++) {
+    make_file(kind < 2, kind < 4 ? OLD_RUN : RUN, kind % 2);
     for (i = 0; i < sizeof CALLS / sizeof *CALLS; i++) {
       long bytes = depth(CALLS[i].call);
       int holds = bytes <= CALLS[i].most;
       wrong += !holds;
-      printf("  sdd_%-9s%8ld bytes of stack, at most %ld%s\n", CALLS[i].name, bytes, CALLS[i].most,
+      printf("  sdd_%-11s%8ld bytes of stack, at most %ld%s\n", CALLS[i].name, bytes, CALLS[i].most,
              holds ? "" : ": TOO MUCH");
     }
   }

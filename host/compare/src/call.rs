@@ -3,7 +3,18 @@
 use face::{Begun, Entry, Job, Listed, Opened, Refusal, Span, Stepped};
 use model::Write;
 
-/// One of the twelve calls; what it is lent is the world's.
+/// What is lent to a call: as it is before, or as it should be after it.
+#[allow(missing_docs)]
+#[derive(Clone, Copy)]
+pub struct Lent<'a> {
+    pub file: &'a [u8],
+    pub scan: &'a [u8],
+    pub about: &'a model::About,
+    /// The second buffer, which a conversion writes into.
+    pub second: &'a [u8],
+}
+
+/// One of the fourteen calls; what it is lent is the world's.
 #[allow(missing_docs)]
 #[derive(Clone, Copy, Debug)]
 pub enum Call {
@@ -19,11 +30,27 @@ pub enum Call {
     Keep,
     Clear { slot: u64 },
     Step { job: Job },
+    ToCurrent,
+    ToOld,
 }
 
 /// The names of the calls, in the header's order.
-pub const NAMES: [&str; 12] =
-    ["open", "list", "entry", "show", "read", "class", "data", "blank", "save", "keep", "clear", "step"];
+pub const NAMES: [&str; 14] = [
+    "open",
+    "list",
+    "entry",
+    "show",
+    "read",
+    "class",
+    "data",
+    "blank",
+    "save",
+    "keep",
+    "clear",
+    "step",
+    "to_current",
+    "to_old",
+];
 
 impl Call {
     /// The call's place in the header, from 0.
@@ -41,6 +68,8 @@ impl Call {
             Call::Keep => 9,
             Call::Clear { .. } => 10,
             Call::Step { .. } => 11,
+            Call::ToCurrent => 12,
+            Call::ToOld => 13,
         }
     }
 }
@@ -133,12 +162,20 @@ pub struct Expected {
     pub write: Option<Write>,
     /// The elements written to `out`.
     pub out: Vec<u32>,
+    /// The change of the second buffer, if any.
+    pub converted: Option<Write>,
 }
 
 impl Expected {
+    /// An answer that comes with no change of memory.
+    fn only(answer: Answer) -> Expected {
+        Expected { answer, write: None, out: Vec::new(), converted: None }
+    }
+
     /// Asks the model.
-    pub fn of(call: &Call, file: &[u8], scan: &[u8], about: &model::About) -> Expected {
-        let only = |answer| Expected { answer, write: None, out: Vec::new() };
+    pub fn of(call: &Call, lent: &Lent) -> Expected {
+        let Lent { file, scan, about, second } = *lent;
+        let only = Expected::only;
         match *call {
             Call::Open => only(Answer::Opened(opened(file))),
             Call::List { out_len } => listed(file, out_len),
@@ -152,6 +189,8 @@ impl Expected {
             Call::Keep => only(begun(model::keep(file, scan, about))),
             Call::Clear { slot } => only(begun(model::clear(file, slot))),
             Call::Step { job } => stepped(file, scan, &job),
+            Call::ToCurrent => converted(model::to_current(file, second.len())),
+            Call::ToOld => converted(model::to_old(file, second.len())),
         }
     }
 }
@@ -187,7 +226,8 @@ fn listed(file: &[u8], out_len: usize) -> Expected {
         Err(why) => (refusal(why), Vec::new()),
         Ok(out) => (Refusal::NONE, out),
     };
-    Expected { answer: Answer::Listed(Listed { why, scans: out.len() as u64 / 3 }), write: None, out }
+    let answer = Answer::Listed(Listed { why, scans: out.len() as u64 / 3 });
+    Expected { out, ..Expected::only(answer) }
 }
 
 fn entry(file: &[u8], slot: u64) -> Entry {
@@ -228,9 +268,20 @@ fn span(answer: model::Answer<(u64, u64)>) -> Answer {
 }
 
 fn blank(file: &[u8], n: u64, l: u64, m: u64) -> Expected {
-    match model::blank(file.len() as u64, n, l, m) {
-        Err(why) => Expected { answer: Answer::Refusal(refusal(why)), write: None, out: Vec::new() },
-        Ok(write) => Expected { answer: Answer::Refusal(Refusal::NONE), write: Some(write), out: Vec::new() },
+    let (why, write) = changed(model::blank(file.len() as u64, n, l, m));
+    Expected { write, ..Expected::only(Answer::Refusal(why)) }
+}
+
+fn converted(answer: model::Answer<Write>) -> Expected {
+    let (why, converted) = changed(answer);
+    Expected { converted, ..Expected::only(Answer::Refusal(why)) }
+}
+
+/// The refusal or the change.
+fn changed(answer: model::Answer<Write>) -> (Refusal, Option<Write>) {
+    match answer {
+        Err(why) => (refusal(why), None),
+        Ok(write) => (Refusal::NONE, Some(write)),
     }
 }
 
@@ -245,7 +296,7 @@ fn stepped(file: &[u8], scan: &[u8], job: &Job) -> Expected {
     match model::step(file, scan, &to_model(job)) {
         Err(why) => {
             let answer = Stepped { why: refusal(why), done: 0, record: 0, written: 0, job: *job };
-            Expected { answer: Answer::Stepped(answer), write: None, out: Vec::new() }
+            Expected::only(Answer::Stepped(answer))
         }
         Ok(stepped) => {
             let (done, record) = match stepped.done {
@@ -255,7 +306,7 @@ fn stepped(file: &[u8], scan: &[u8], job: &Job) -> Expected {
             };
             let job = to_face(&stepped.job);
             let answer = Stepped { why: Refusal::NONE, done, record, written: job.written, job };
-            Expected { answer: Answer::Stepped(answer), write: stepped.write, out: Vec::new() }
+            Expected { write: stepped.write, ..Expected::only(Answer::Stepped(answer)) }
         }
     }
 }

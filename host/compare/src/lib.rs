@@ -5,7 +5,7 @@
 //! guard pages, and the whole answer and all memory are compared. The cases
 //! come in themes; [`run`] mixes them from a seed.
 //!
-//! From the ground up: `rng` and `call`, `cases` and `tally`, `world` with its subjects (`linked` on
+//! From the ground up: `rng` and `call`, `cases` and `tally` on `moves`, `world` with its subjects (`linked` on
 //! `guarded`, `recorder`), `themes`, `run`. Apart from these, on `rng` alone, `lengths`.
 
 mod call;
@@ -13,6 +13,7 @@ mod cases;
 mod guarded;
 mod lengths;
 mod linked;
+mod moves;
 mod recorder;
 mod rng;
 mod run;

@@ -1,6 +1,6 @@
 //! A subject that is linked into this process: its memory stands between guard pages.
 
-use crate::call::{Answer, Call, Expected};
+use crate::call::{Answer, Call, Expected, Lent};
 use crate::guarded::{Guarded, Side};
 use crate::rng::Rng;
 use crate::world::Subject;
@@ -19,6 +19,7 @@ pub struct Linked {
     file: Guarded,
     scan: Guarded,
     about: Guarded,
+    second: Guarded,
     /// Where nothing is lent the pointer may be anything: sometimes it is null.
     nulls: bool,
 }
@@ -27,7 +28,7 @@ impl Linked {
     /// By its calls.
     pub fn new(calls: Calls) -> Linked {
         let none = || Guarded::zeros(0, Side::Right);
-        Linked { calls, file: none(), scan: none(), about: none(), nulls: false }
+        Linked { calls, file: none(), scan: none(), about: none(), second: none(), nulls: false }
     }
 
     fn pointer(nulls: bool, memory: &mut Guarded) -> *mut u8 {
@@ -37,9 +38,11 @@ impl Linked {
     /// Makes the call.
     fn make(&mut self, call: &Call, out: &mut Guarded) -> Answer {
         let (file_len, scan_len) = (self.file.bytes().len(), self.scan.bytes().len());
+        let second_len = self.second.bytes().len();
         let file = Linked::pointer(self.nulls, &mut self.file);
         let scan = Linked::pointer(self.nulls, &mut self.scan);
         let out_at = Linked::pointer(self.nulls, out).cast::<u32>();
+        let second = Linked::pointer(self.nulls, &mut self.second);
         let about = self.about.pointer();
         let calls = &self.calls;
         // SAFETY: every pointer comes with the length of the memory behind it, which this subject
@@ -58,6 +61,8 @@ impl Linked {
                 Call::Keep => Answer::Begun((calls.keep)(file, file_len, scan, scan_len, about)),
                 Call::Clear { slot } => Answer::Begun((calls.clear)(file, file_len, slot)),
                 Call::Step { job } => Answer::Stepped((calls.step)(file, file_len, scan, scan_len, job)),
+                Call::ToCurrent => Answer::Refusal((calls.to_current)(file, file_len, second, second_len)),
+                Call::ToOld => Answer::Refusal((calls.to_old)(file, file_len, second, second_len)),
             }
         }
     }
@@ -88,32 +93,30 @@ impl Subject for Linked {
         self.about = Guarded::copy(about, side(rng));
     }
 
-    fn call(
-        &mut self,
-        call: &Call,
-        expected: &Expected,
-        file: &[u8],
-        scan: &[u8],
-        about: &About,
-    ) -> Result<(), String> {
+    fn new_second(&mut self, second: &[u8], rng: &mut Rng) {
+        self.second = Guarded::copy(second, side(rng));
+    }
+
+    fn call(&mut self, call: &Call, expected: &Expected, held: &Lent) -> Result<(), String> {
         let mut out = self.out(call);
         let answer = self.make(call, &mut out);
         if answer.bytes() != expected.answer.bytes() {
             return Err(format!("answered {answer:?}\n  expected {:?}", expected.answer));
         }
-        if file.len() <= LARGE {
-            self.whole_file(file)?;
+        if held.file.len() <= LARGE {
+            self.whole_file(held.file)?;
         } else if let Some(write) = &expected.write {
             same("the file where it is written", &self.file.bytes()[write.at..][..write.bytes.len()], &write.bytes)?;
         }
-        same("the scan", self.scan.bytes(), scan)?;
-        same("the entry's bytes", self.about.bytes(), about)?;
+        same("the scan", self.scan.bytes(), held.scan)?;
+        same("the entry's bytes", self.about.bytes(), held.about)?;
+        same("the second buffer", self.second.bytes(), held.second)?;
         let mut wanted = UNTOUCHED.to_ne_bytes().repeat(out.bytes().len() / 4);
         for (i, element) in expected.out.iter().enumerate() {
             wanted[4 * i..][..4].copy_from_slice(&element.to_ne_bytes());
         }
         same("the listing", out.bytes(), &wanted)?;
-        let beside = [&mut self.file, &mut self.scan, &mut self.about, &mut out];
+        let beside = [&self.file, &self.scan, &self.about, &self.second, &out];
         if beside.into_iter().any(|memory| !memory.slack_stands()) {
             return Err("something was written beside what was lent".to_string());
         }

@@ -9,18 +9,20 @@
 //! | P | at, len, bytes | these bytes at this place of the file |
 //! | S | len, bytes | a new scan |
 //! | A | 54 bytes | new bytes for the entry |
-//! | C | call, arguments, answer, writes, elements | a call |
+//! | B | len, bytes | a new second buffer |
+//! | C | call, arguments, answer, writes, elements, converted | a call |
 //! | E | | the end |
 //!
 //! All numbers are 64 bits, a call's number is a byte. A call's arguments are
 //! its numbers in the header's order (a list: the length of `out`; a step: the
 //! job's fields). An answer is a length and the bytes of [`Answer::bytes`];
 //! the writes are a count and then place, length and bytes of each; the
-//! elements are a count and 32 bits each.
+//! elements are a count and 32 bits each; what is converted is a length and the
+//! bytes that the second buffer then begins with.
 //!
 //! [`Answer::bytes`]: crate::call::Answer::bytes
 
-use crate::call::{Call, Expected, put_job};
+use crate::call::{Call, Expected, Lent, put_job};
 use crate::rng::Rng;
 use crate::world::Subject;
 use model::About;
@@ -58,7 +60,7 @@ impl<W: Write> Recorder<W> {
 
     fn arguments(&mut self, call: &Call) {
         match *call {
-            Call::Open | Call::Data | Call::Keep => (),
+            Call::Open | Call::Data | Call::Keep | Call::ToCurrent | Call::ToOld => (),
             Call::List { out_len } => self.number(out_len as u64),
             Call::Entry { slot } | Call::Show { slot } | Call::Read { slot } => self.number(slot),
             Call::Save { slot } | Call::Clear { slot } => self.number(slot),
@@ -95,7 +97,12 @@ impl<W: Write> Subject for Recorder<W> {
         self.put(about);
     }
 
-    fn call(&mut self, call: &Call, expected: &Expected, _: &[u8], _: &[u8], _: &About) -> Result<(), String> {
+    fn new_second(&mut self, second: &[u8], _: &mut Rng) {
+        self.put(b"B");
+        self.row(second);
+    }
+
+    fn call(&mut self, call: &Call, expected: &Expected, _: &Lent) -> Result<(), String> {
         self.put(b"C");
         self.put(&[call.number() as u8]);
         self.arguments(call);
@@ -107,6 +114,7 @@ impl<W: Write> Subject for Recorder<W> {
         }
         self.number(expected.out.len() as u64);
         expected.out.iter().for_each(|element| self.put(&element.to_le_bytes()));
+        self.row(expected.converted.as_ref().map_or(&[], |write| &write.bytes));
         Ok(())
     }
 

@@ -1,7 +1,7 @@
 //! A run: rounds of the themes from a seed, until there are cases enough.
 
 use crate::tally::Tally;
-use crate::themes::{GIANT, PAST, THEMES, Theme, WIDE};
+use crate::themes::{GIANT, PAST, REACH, THEMES, Theme, WIDE};
 use crate::world::{Disagreement, Subject, World};
 use std::ffi::c_int;
 use std::sync::atomic::{AtomicU64, Ordering::Relaxed};
@@ -19,9 +19,11 @@ pub struct Options {
     pub giants: bool,
 }
 
-/// Every so many rounds a wide file takes its turn, an old one with very many records, and a giant one.
+/// Every so many rounds a wide file takes its turn, an old one with very many records, a current one of which the old
+/// form can say no more, and a giant one.
 const WIDE_EVERY: u64 = 150;
 const PAST_EVERY: u64 = 200;
+const REACH_EVERY: u64 = 200;
 const GIANT_EVERY: u64 = 2_500;
 
 static SEED: AtomicU64 = AtomicU64::new(0);
@@ -73,6 +75,9 @@ fn theme_of(world: &mut World, round: u64, giants: bool) -> &'static Theme {
     }
     if round % PAST_EVERY == 60 {
         return &PAST;
+    }
+    if round % REACH_EVERY == 130 {
+        return &REACH;
     }
     let mut at = world.rng.below(THEMES.iter().map(|theme| theme.share).sum());
     for theme in &THEMES {

@@ -1,10 +1,11 @@
-//! What was reached: calls, refusals and reasons, and the refusals of old files once more by themselves.
+//! What was reached: calls, refusals and reasons, the refusals of old files once more by themselves, and conversions.
 
 use crate::call::{Answer, Call, NAMES};
+use crate::moves::Moves;
 use std::fmt;
 
 /// The numbers of refusals, and 0.
-const NUMBERS: usize = 19;
+const NUMBERS: usize = 20;
 
 /// What an old file can be answered with, by what is done with it: 0 is that the call is accepted.
 const OLD: [(&str, &[usize]); 3] = [
@@ -17,7 +18,7 @@ const OLD: [(&str, &[usize]); 3] = [
 #[derive(Clone, Default, PartialEq, Eq)]
 pub struct Tally {
     /// By call, in the header's order.
-    pub calls: [u64; 12],
+    pub calls: [u64; 14],
     /// By refusal; the element at 0 counts accepted calls.
     pub refusals: [u64; NUMBERS],
     /// By the reason in refusal 11; the element at 0 is not used.
@@ -26,6 +27,8 @@ pub struct Tally {
     pub confirmed: [u64; 2],
     /// By refusal, of the calls on files made in the old form: looks, changes and steps.
     pub old: [[u64; NUMBERS]; 3],
+    /// Conversions.
+    pub(crate) moves: Moves,
 }
 
 /// Which of the rows of `OLD` a call counts for; none where the file's form does not matter to it.
@@ -35,12 +38,14 @@ fn old_row(call: &Call) -> Option<usize> {
         Call::Save { .. } | Call::Keep | Call::Clear { .. } => Some(1),
         Call::Step { .. } => Some(2),
         Call::Class { .. } | Call::Data | Call::Blank { .. } => None,
+        // these have their own rows, for either form
+        Call::ToCurrent | Call::ToOld => None,
     }
 }
 
 impl Tally {
-    /// Counts one call, on an old file or not.
-    pub(crate) fn count(&mut self, call: &Call, answer: &Answer, old: bool) {
+    /// Counts one call on this file, which is old or not.
+    pub(crate) fn count(&mut self, call: &Call, answer: &Answer, old: bool, file: &[u8]) {
         let why = answer.why();
         self.calls[call.number()] += 1;
         self.refusals[why.number as usize] += 1;
@@ -55,6 +60,7 @@ impl Tally {
         {
             self.confirmed[stepped.done as usize - 1] += 1;
         }
+        self.moves.count(call, why.number, file);
     }
 
     /// All calls.
@@ -75,17 +81,18 @@ impl Tally {
         assert_eq!(numbers.len(), self.numbers().count());
         let counts =
             self.calls.iter_mut().chain(&mut self.refusals).chain(&mut self.reasons).chain(&mut self.confirmed);
-        let counts = counts.chain(self.old.iter_mut().flatten());
+        let counts = counts.chain(self.old.iter_mut().flatten()).chain(self.moves.numbers_mut());
         counts.zip(numbers).for_each(|(count, number)| *count += number);
         true
     }
 
     fn numbers(&self) -> impl Iterator<Item = u64> {
         let counts = self.calls.iter().chain(&self.refusals).chain(&self.reasons).chain(&self.confirmed);
-        counts.chain(self.old.iter().flatten()).copied()
+        counts.chain(self.old.iter().flatten()).chain(self.moves.numbers()).copied()
     }
 
-    /// Refusals, reasons and confirmations that no case reached, and of an old file what it can be answered with.
+    /// Refusals, reasons and confirmations that no case reached, of an old file what it can be answered with, and of
+    /// conversions all that is counted.
     pub fn unreached(&self) -> Vec<String> {
         let mut missing = Vec::new();
         let mut look = |name: &str, counts: &[u64], from: usize| {
@@ -103,6 +110,8 @@ impl Tally {
             missing.extend(numbers.iter().filter(|n| counts[**n] == 0).map(|n| format!("{name}, {n}")));
         }
         missing
+            .extend(Moves::names().zip(self.moves.numbers()).filter(|(_, count)| **count == 0).map(|(name, _)| name));
+        missing
     }
 }
 
@@ -110,16 +119,16 @@ impl fmt::Display for Tally {
     fn fmt(&self, f: &mut fmt::Formatter) -> fmt::Result {
         writeln!(f, "{} calls compared", self.cases())?;
         for (name, count) in NAMES.iter().zip(self.calls) {
-            writeln!(f, "  {name:<8} {count:>9}")?;
+            writeln!(f, "  {name:<10} {count:>9}")?;
         }
         writeln!(f, "answers")?;
         writeln!(
             f,
-            "  accepted {:>9}  (Saved {}, Cleared {})",
+            "  accepted   {:>9}  (Saved {}, Cleared {})",
             self.refusals[0], self.confirmed[0], self.confirmed[1]
         )?;
         for (number, count) in self.refusals.iter().enumerate().skip(1) {
-            write!(f, "  {number:<8} {count:>9}")?;
+            write!(f, "  {number:<10} {count:>9}")?;
             if number == 11 {
                 write!(f, "  (by rule: {:?})", &self.reasons[1..])?;
             }
@@ -129,6 +138,10 @@ impl fmt::Display for Tally {
             let reached = counts.iter().enumerate().filter(|(_, count)| **count > 0);
             let reached: Vec<String> = reached.map(|(number, count)| format!("{number}: {count}")).collect();
             writeln!(f, "{name} ({})", reached.join(", "))?;
+        }
+        writeln!(f, "conversions")?;
+        for (name, count) in Moves::names().zip(self.moves.numbers()) {
+            writeln!(f, "  {count:>9}  {name}")?;
         }
         Ok(())
     }

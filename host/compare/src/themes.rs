@@ -9,8 +9,10 @@ mod files;
 mod forged;
 mod giant;
 mod histories;
+mod moved;
 mod older;
 mod past;
+mod reach;
 mod scans;
 mod shared;
 mod wide;
@@ -28,16 +30,17 @@ pub struct Theme {
 }
 
 /// The themes whose turn comes by chance.
-pub const THEMES: [Theme; 9] = [
-    Theme { name: "files", share: 24, round: files::round },
+pub const THEMES: [Theme; 10] = [
+    Theme { name: "files", share: 22, round: files::round },
     Theme { name: "edges", share: 12, round: edges::round },
-    Theme { name: "scans", share: 17, round: scans::round },
+    Theme { name: "scans", share: 15, round: scans::round },
     Theme { name: "blanks", share: 5, round: blanks::round },
-    Theme { name: "histories", share: 14, round: histories::round },
+    Theme { name: "histories", share: 12, round: histories::round },
     Theme { name: "cuts", share: 6, round: cuts::round },
     Theme { name: "forged", share: 7, round: forged::round },
     Theme { name: "confirming", share: 7, round: confirming::round },
     Theme { name: "older", share: 8, round: older::round },
+    Theme { name: "moved", share: 6, round: moved::round },
 ];
 
 /// Up to 4,096 slots; dear, so its turn comes by count.
@@ -45,6 +48,9 @@ pub const WIDE: Theme = Theme { name: "wide", share: 0, round: wide::round };
 
 /// Old files with more than 32,767 records; dear too.
 pub const PAST: Theme = Theme { name: "past", share: 0, round: past::round };
+
+/// Current files of which the old form can say no more; as dear.
+pub const REACH: Theme = Theme { name: "reach", share: 0, round: reach::round };
 
 /// More than 1,000,000 records; very dear.
 pub const GIANT: Theme = Theme { name: "giant", share: 0, round: giant::round };

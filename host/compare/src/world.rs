@@ -1,6 +1,6 @@
 //! A file, a scan and an entry's bytes, on which model and subject are asked the same.
 
-use crate::call::{Answer, Call, Expected};
+use crate::call::{Answer, Call, Expected, Lent};
 use crate::cases::shape::{Form, get32};
 use crate::rng::Rng;
 use crate::tally::Tally;
@@ -17,9 +17,10 @@ pub trait Subject {
     fn new_scan(&mut self, scan: &[u8], rng: &mut Rng);
     /// Has new bytes for the entry.
     fn new_about(&mut self, about: &About, rng: &mut Rng);
+    /// Has a new second buffer.
+    fn new_second(&mut self, second: &[u8], rng: &mut Rng);
     /// Makes the call; what the world holds is what memory should then be.
-    fn call(&mut self, call: &Call, expected: &Expected, file: &[u8], scan: &[u8], about: &About)
-    -> Result<(), String>;
+    fn call(&mut self, call: &Call, expected: &Expected, held: &Lent) -> Result<(), String>;
     /// Whether all of the file is as it should be, also where a call looks at a part of it alone.
     fn whole_file(&mut self, file: &[u8]) -> Result<(), String>;
 }
@@ -46,6 +47,8 @@ pub struct World<'a> {
     /// The scan that is lent.
     pub scan: Vec<u8>,
     about: About,
+    /// The second buffer, as it should be.
+    pub second: Vec<u8>,
     /// What was reached.
     pub tally: Tally,
 }
@@ -60,11 +63,13 @@ impl<'a> World<'a> {
             form: Form::Current,
             scan: Vec::new(),
             about: [0; 54],
+            second: Vec::new(),
             tally: Tally::default(),
         };
         world.set_file(Vec::new());
         world.set_scan(Vec::new());
         world.set_about([0; 54]);
+        world.set_second(Vec::new());
         world
     }
 
@@ -99,6 +104,12 @@ impl<'a> World<'a> {
         self.file[at..at + bytes.len()].copy_from_slice(bytes);
     }
 
+    /// Puts bootstrap and index of this form in the place of the file's own; its data stay.
+    pub fn put_index(&mut self, form: Form, records: &[u8]) {
+        self.patch(0, records);
+        self.form = form;
+    }
+
     /// Takes a new scan.
     pub fn set_scan(&mut self, scan: Vec<u8>) {
         self.subject.new_scan(&scan, &mut self.rng);
@@ -111,15 +122,26 @@ impl<'a> World<'a> {
         self.about = about;
     }
 
+    /// Takes a new second buffer.
+    pub fn set_second(&mut self, second: Vec<u8>) {
+        self.subject.new_second(&second, &mut self.rng);
+        self.second = second;
+    }
+
     /// Makes a call of both sides, and compares answers and memory.
     pub fn call(&mut self, call: Call) -> Round<Answer> {
-        let expected = Expected::of(&call, &self.file, &self.scan, &self.about);
+        let lent = Lent { file: &self.file, scan: &self.scan, about: &self.about, second: &self.second };
+        let expected = Expected::of(&call, &lent);
         if let Some(write) = &expected.write {
             write.apply(&mut self.file);
         }
-        self.tally.count(&call, &expected.answer, self.is_old());
+        if let Some(write) = &expected.converted {
+            write.apply(&mut self.second);
+        }
+        self.tally.count(&call, &expected.answer, self.is_old(), &self.file);
+        let held = Lent { file: &self.file, scan: &self.scan, about: &self.about, second: &self.second };
         self.subject
-            .call(&call, &expected, &self.file, &self.scan, &self.about)
+            .call(&call, &expected, &held)
             .map_err(|what| Disagreement { what: format!("{call:?}\n  {what}") })?;
         Ok(expected.answer)
     }

@@ -25,9 +25,20 @@ fn agree(subject: &str, cases: u64) -> Tally {
 #[test]
 fn what_no_case_reached_is_named() {
     let missing = Tally::default().unreached();
-    // refusals with 0, rules, Saved and Cleared, calls; then an old file's looks, changes and steps
-    assert_eq!(missing.len(), 19 + 6 + 2 + 12 + 13 + 3 + 1);
-    let named = ["refusal 18", "a look at an old file, 18", "a change of an old file, 2", "a step on an old file, 14"];
+    // refusals with 0, rules, Saved and Cleared, calls; then an old file's looks, changes and steps; then the answers of
+    // conversions, what they came upon, and the ways there and home
+    assert_eq!(missing.len(), 20 + 6 + 2 + 14 + 13 + 3 + 1 + 2 * 10 + 19 + 4);
+    let named = [
+        "refusal 19",
+        "a look at an old file, 18",
+        "a change of an old file, 2",
+        "a step on an old file, 14",
+        "to the current form, 19",
+        "to the old form, 17",
+        "19, D 32,768",
+        "taken, D 32,767",
+        "there and home from the old form, byte for byte",
+    ];
     for name in named {
         assert!(missing.iter().any(|missing| missing == name), "{name} is not among {missing:?}");
     }

@@ -14,6 +14,8 @@ fn home(slot: usize) -> usize {
     L + M * (slot - 1)
 }
 
+type Convert = fn(&[u8], usize) -> Answer<Write>;
+
 /// What the bytes 8 to 59 of slot 2's entry are.
 fn fields() -> Vec<u8> {
     (8..60).collect()
@@ -191,8 +193,7 @@ fn shows_the_same(one: &[u8], other: &[u8]) {
 
 #[test]
 fn there_and_home_again_from_either_side() {
-    let sides: [(Vec<u8>, [fn(&[u8], usize) -> Answer<Write>; 2]); 2] =
-        [(old(), [to_current, to_old]), (current(), [to_old, to_current])];
+    let sides: [(Vec<u8>, [Convert; 2]); 2] = [(old(), [to_current, to_old]), (current(), [to_old, to_current])];
     for (file, [there, home]) in sides {
         let moved = joined(there(&file, N_L).unwrap(), &file);
         shows_the_same(&file, &moved);

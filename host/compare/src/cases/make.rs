@@ -130,6 +130,31 @@ pub fn small_file(rng: &mut Rng, form: Form) -> (Shape, Vec<u8>) {
     (shape, made)
 }
 
+/// Takes from a file whatever keeps it from being converted to the other form: a type, a counter that is too high, the
+/// magics of its scans. Those of empty entries stay.
+pub fn movable(rng: &mut Rng, file: &mut [u8], shape: &Shape) {
+    if !shape.is_old() {
+        shape.put_word(file, 7, 0);
+        return shape.put_word(file, 6, rng.pick(&[0, 1, 0x7fff, 0x8000, 0xfffe, 0xffff]));
+    }
+    for slot in 1..=shape.capacity() {
+        if shape.run(file, slot) != (0, 0) {
+            put16(file, home(shape, slot) + 4, 2);
+        }
+    }
+}
+
+/// Puts zeros wherever a conversion puts them: after the words of record 1, after an entry's fields, in empty entries.
+pub fn tidy(file: &mut [u8], shape: &Shape) {
+    let (words, fields) = if shape.is_old() { (12, 60) } else { (32, 62) };
+    file[words..shape.l as usize].fill(0);
+    for slot in 1..=shape.capacity() {
+        let empty = shape.run(file, slot) == (0, 0);
+        let entry = &mut file[home(shape, slot)..][..shape.m as usize];
+        entry[if empty { 0 } else { fields }..].fill(0);
+    }
+}
+
 /// Modes at and around the two ranges.
 fn random_mode(rng: &mut Rng) -> i16 {
     match rng.below(4) {

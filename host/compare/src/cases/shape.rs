@@ -29,6 +29,11 @@ impl Shape {
         self.form == Form::Old
     }
 
+    /// The same in the other form.
+    pub fn other(&self) -> Shape {
+        Shape { form: if self.is_old() { Form::Current } else { Form::Old }, ..*self }
+    }
+
     /// Where a word of the bootstrap begins, from 1, and whether it has 16 bits. Words 7 and 8 have 32 in either form.
     fn word_at(&self, word: usize) -> (usize, bool) {
         let short = self.is_old() && word <= 6;

@@ -1,6 +1,6 @@
 //! Files, right and damaged, asked everything.
 
-use super::shared::{jobs, slots};
+use super::shared::{jobs, moves, slots};
 use crate::call::Call;
 use crate::cases::shape::Shape;
 use crate::cases::{damage, make};
@@ -17,7 +17,7 @@ pub fn round(world: &mut World) -> Round {
     ask_everything(world, &shape)
 }
 
-/// Every call that looks or begins a job; some jobs are also run.
+/// Every call that looks, converts or begins a job; some jobs are also run.
 pub fn ask_everything(world: &mut World, shape: &Shape) -> Round {
     world.call(Call::Open)?;
     list(world, shape)?;
@@ -29,6 +29,7 @@ pub fn ask_everything(world: &mut World, shape: &Shape) -> Round {
         let slot = slots::any(world, shape);
         world.call(Call::Read { slot })?;
     }
+    moves::ask(world, shape)?;
     jobs::new_scan(world);
     let slot = slots::any(world, shape);
     let call = world.rng.pick(&[Call::Save { slot }, Call::Keep, Call::Clear { slot }]);

@@ -1,5 +1,6 @@
 //! Old files whose records go on past 32,767, the last one that an old entry can name.
 
+use super::shared::moves;
 use super::{files, older};
 use crate::call::Call;
 use crate::cases::make;
@@ -69,6 +70,7 @@ fn ask(world: &mut World, shape: &Shape) -> Round {
     world.patch(((record - 1) * shape.l) as usize, &scan);
     world.call(Call::Open)?;
     files::list(world, shape)?;
+    moves::ask(world, shape)?;
     for slot in [1, 2, 3, shape.capacity()] {
         world.call(Call::Entry { slot })?;
         world.call(Call::Show { slot })?;

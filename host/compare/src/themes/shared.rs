@@ -1,4 +1,5 @@
-//! What the themes share: slots to ask about, and jobs. From the ground up: `slots`, `jobs`.
+//! What the themes share: slots to ask about, jobs and conversions. From the ground up: `slots`, `jobs`; `moves`.
 
 pub mod jobs;
+pub mod moves;
 pub mod slots;
