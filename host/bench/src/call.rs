@@ -1,7 +1,8 @@
 //! The calls that are measured, as the library and plain Rust make them.
 
-use crate::file::{File, L, M};
-use face::{Calls, Job, Opened, Stepped};
+use crate::file::{File, M};
+use crate::map::Map;
+use face::{Calls, Job, Opened, Refusal, Stepped};
 use std::fmt;
 use std::hint::black_box;
 use std::ptr::null;
@@ -29,6 +30,16 @@ pub enum Call {
     Save(usize),
     /// A clear of the last slot, which holds a scan of so many bytes.
     Clear(usize),
+    /// Bootstrap and index into a second buffer of N records, in the current form or in the old one.
+    ToCurrent,
+    ToOld,
+}
+
+impl Call {
+    /// Whether it is a conversion.
+    pub fn is_move(self) -> bool {
+        matches!(self, Call::ToCurrent | Call::ToOld)
+    }
 }
 
 impl fmt::Display for Call {
@@ -47,6 +58,8 @@ impl fmt::Display for Call {
             Call::BeginClear => f.write_str("begin clear"),
             Call::Save(bytes) => write!(f, "save {bytes}"),
             Call::Clear(bytes) => write!(f, "clear {bytes}"),
+            Call::ToCurrent => f.write_str("to_current"),
+            Call::ToOld => f.write_str("to_old"),
         }
     }
 }
@@ -56,6 +69,8 @@ pub struct Stage {
     pub file: File,
     pub scan: Vec<u8>,
     out: Vec<u32>,
+    /// The second buffer of a conversion, which has N records; of any other call it is not used.
+    pub second: Map,
     /// Record 1 and the last slot's entry, as they are before a job.
     boot: [u8; 32],
     entry: [u8; M],
@@ -68,8 +83,9 @@ impl Stage {
             Call::BeginSave(bytes) | Call::BeginKeep(bytes) | Call::Save(bytes) | Call::Clear(bytes) => bytes,
             _ => 512,
         };
-        let mut stage =
-            Stage { file, scan: sample::scan(bytes, 9), out: vec![0; 3 * 4096], boot: [0; 32], entry: [0; M] };
+        let second = Map::new(file.plan.n() * file.plan.l());
+        let (scan, out) = (sample::scan(bytes, 9), vec![0; 3 * 4096]);
+        let mut stage = Stage { file, scan, out, second, boot: [0; 32], entry: [0; M] };
         if matches!(call, Call::Clear(_)) {
             let saved = stage.save(&plain::calls());
             assert!(saved.done == 1, "no scan to clear: {:?}", saved.why);
@@ -87,7 +103,7 @@ impl Stage {
 
     /// Where the last slot's entry begins.
     fn home(&self) -> usize {
-        L + (self.file.plan.slots - 1) * M
+        self.file.plan.home(self.file.plan.slots)
     }
 
     /// Makes the call once. A job is undone again: two copies of 96 bytes, for either side.
@@ -95,6 +111,7 @@ impl Stage {
         let (at, len) = (self.file.map.pointer(), self.file.map.size());
         let (scan, scan_len) = (self.scan.as_ptr(), self.scan.len());
         let middle = self.file.middle() as u64;
+        let [n, l, m] = [self.file.plan.n(), self.file.plan.l(), self.file.plan.m].map(|size| size as u64);
         // SAFETY: every pointer comes with the length of memory that this stage owns.
         unsafe {
             match call {
@@ -105,7 +122,7 @@ impl Stage {
                 Call::Read => _ = black_box((calls.read)(at, len, middle)),
                 Call::Class => _ = black_box((calls.class)(scan, scan_len, 13)),
                 Call::Data => _ = black_box((calls.data)(scan, scan_len)),
-                Call::Blank => _ = black_box((calls.blank)(at, len, self.file.plan.n() as u64, L as u64, M as u64)),
+                Call::Blank => _ = black_box((calls.blank)(at, len, n, l, m)),
                 Call::BeginSave(_) => {
                     black_box((calls.save)(at, len, self.slot(), scan, scan_len, ABOUT.as_ptr()));
                 }
@@ -119,8 +136,25 @@ impl Stage {
                     black_box(self.clear(calls));
                     self.undo();
                 }
+                Call::ToCurrent | Call::ToOld => _ = black_box(self.convert(calls, call)),
             }
         }
+    }
+
+    /// A conversion into the second buffer.
+    fn convert(&mut self, calls: &Calls, call: Call) -> Refusal {
+        let (at, len) = (self.file.map.pointer(), self.file.map.size());
+        let convert = if call == Call::ToCurrent { calls.to_current } else { calls.to_old };
+        // SAFETY: as in `make`.
+        unsafe { convert(at, len, self.second.pointer(), self.second.size()) }
+    }
+
+    /// What a conversion writes; it has to be accepted.
+    pub fn converted(&mut self, calls: &Calls, call: Call) -> Vec<u8> {
+        self.second.bytes().fill(0xa5);
+        let why = self.convert(calls, call);
+        assert!(why.number == 0, "{call} refused: {why:?}");
+        self.second.bytes().to_vec()
     }
 
     /// What an open answers.

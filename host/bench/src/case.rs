@@ -2,8 +2,9 @@
 
 use crate::call::{Call, Stage};
 use crate::clock::{Contender, Spread, contest, turns};
-use crate::file::{File, Form, L, Plan};
+use crate::file::{File, Form, M, Plan};
 use crate::limit;
+use face::Calls;
 use std::cell::RefCell;
 use std::time::Duration;
 
@@ -21,7 +22,7 @@ pub struct Case {
 pub struct Times {
     pub library: f64,
     pub plain: f64,
-    /// The decoding passes that the call cannot do without, and one copy of the scan.
+    /// The decoding passes that the call cannot do without, and one copy of the scan, or one fill of N records.
     pub limit: f64,
     /// An open of the same file by the library.
     pub open: f64,
@@ -32,11 +33,12 @@ pub struct Times {
 impl Case {
     /// The file, in words.
     pub fn file(&self) -> String {
-        let Plan { slots, used, run, order, room, form, .. } = self.plan;
+        let Plan { slots, used, run, order, room, form, m, .. } = self.plan;
         let old = if form == Form::Old { "old, " } else { "" };
         let runs = if used == 0 { "empty".to_string() } else { format!("{used} used {order}, runs of {run}") };
         let shares = if self.shares { ", refused 8" } else { "" };
-        format!("{old}{slots} slots, {runs}{shares}, {room} records")
+        let wide = if m == M { String::new() } else { format!(", M {m}") };
+        format!("{old}{slots} slots{wide}, {runs}{shares}, {room} records")
     }
 
     /// Call and file.
@@ -59,12 +61,22 @@ impl Case {
         Stage::new(if self.shares { file.share() } else { file }, self.call)
     }
 
+    /// Looks whether library and plain Rust do the same: opens, and where it is one the conversion.
+    fn agree(&self, stage: &mut Stage, library: &Calls, plain: &Calls) {
+        assert_eq!(stage.opened(library), stage.opened(plain), "{}: the two do not do the same", self.name());
+        if self.call.is_move() {
+            let same = stage.converted(library, self.call) == stage.converted(plain, self.call);
+            assert!(same, "{}: the two do not write the same", self.name());
+        }
+    }
+
     /// One run.
     pub fn run(&self, budget: Duration) -> Times {
         let (library, plain) = (sdd::calls(), plain::calls());
         let mut stage = self.stage();
-        assert_eq!(stage.opened(&library), stage.opened(&plain), "{}: the two do not do the same", self.name());
-        let place = (stage.free_place(&plain).max(1) - 1) * L;
+        self.agree(&mut stage, &library, &plain);
+        let l = self.plan.l();
+        let place = (stage.free_place(&plain).max(1) - 1) * l;
         let copied = if matches!(self.call, Call::Save(_)) { stage.scan.clone() } else { Vec::new() };
         let mut row = vec![0u32; 2 * self.plan.slots];
         let stage = RefCell::new(stage);
@@ -72,14 +84,15 @@ impl Case {
             turns(|| stage.borrow_mut().make(&library, self.call)),
             turns(|| stage.borrow_mut().make(&plain, self.call)),
             turns(|| {
-                let mut stage = stage.borrow_mut();
+                let stage = &mut *stage.borrow_mut();
                 let file = stage.file.map.bytes();
                 for _ in 0..self.judgements() {
-                    limit::decode(file, self.plan.form, self.plan.slots, &mut row);
+                    limit::decode(file, &self.plan, &mut row);
                 }
                 match self.call {
-                    Call::Blank => file[..self.plan.n() * L].fill(0),
+                    Call::Blank => file[..self.plan.n() * l].fill(0),
                     Call::Save(_) => file[place..place + copied.len()].copy_from_slice(&copied),
+                    Call::ToCurrent | Call::ToOld => stage.second.bytes().fill(0),
                     _ => (),
                 }
             }),
@@ -87,7 +100,7 @@ impl Case {
             turns(|| {
                 let mut stage = stage.borrow_mut();
                 let file = stage.file.map.bytes();
-                limit::copy(file, place, &copied);
+                limit::copy(file, l, place, &copied);
                 assert!(limit::same(file, place, &copied));
             }),
         ];

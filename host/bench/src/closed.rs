@@ -2,7 +2,7 @@
 //! process, so this runs in a process of its own.
 
 use crate::call::{Call, Stage};
-use crate::file::{File, Form, L, Order, Plan};
+use crate::file::{File, Form, M, Order, Plan};
 use crate::suite::{self, MOST, OLD_RUN};
 use face::Calls;
 use std::process::Command;
@@ -11,7 +11,7 @@ use std::process::Command;
 pub const WORD: &str = "--closed";
 
 fn stage(call: Call, order: Order) -> Stage {
-    let plan = Plan { slots: 4096, used: 4000, run: 128, gap: 1, order, room: MOST, form: Form::Current };
+    let plan = Plan { slots: 4096, m: M, used: 4000, run: 128, gap: 1, order, room: MOST, form: Form::Current };
     Stage::new(File::new(plan), call)
 }
 
@@ -22,7 +22,15 @@ fn old_stage(call: Call, order: Order) -> Stage {
 
 /// All data records.
 fn close_data(stage: &Stage) {
-    stage.file.map.close(stage.file.plan.n() * L..stage.file.map.size());
+    stage.file.map.close(stage.file.plan.n() * stage.file.plan.l()..stage.file.map.size());
+}
+
+/// A conversion of a file of this form, which has to be accepted: a refusal might come before it walks.
+fn convert(calls: &Calls, call: Call, form: Form, order: Order) {
+    let plan = Plan { used: 4000, form, ..suite::old(order, OLD_RUN) };
+    let mut stage = Stage::new(File::new(plan), call);
+    close_data(&stage);
+    stage.converted(calls, call);
 }
 
 /// Makes every call with closed pages: all data records for the calls that need none of them, all but the first of its
@@ -52,8 +60,10 @@ pub fn make(calls: &Calls) {
             stage.make(calls, call);
         }
         read(calls, old_stage(Call::Read, order));
+        convert(calls, Call::ToCurrent, Form::Old, order);
+        convert(calls, Call::ToOld, Form::Current, order);
         let mut saves = stage(Call::Save(65_536), order);
-        let place = (saves.free_place(calls) - 1) * L;
+        let place = (saves.free_place(calls) - 1) * saves.file.plan.l();
         close_data(&saves);
         saves.file.map.open(place..place + 65_536);
         saves.make(calls, Call::Save(65_536));
@@ -64,7 +74,8 @@ pub fn make(calls: &Calls) {
 fn read(calls: &Calls, mut stage: Stage) {
     let (first, _) = stage.file.run(stage.file.middle());
     close_data(&stage);
-    stage.file.map.open((first - 1) * L..first * L);
+    let l = stage.file.plan.l();
+    stage.file.map.open((first - 1) * l..first * l);
     stage.make(calls, Call::Read);
 }
 

@@ -3,8 +3,7 @@
 use crate::map::Map;
 use std::fmt;
 
-/// Bytes per record and per index entry.
-pub const L: usize = 512;
+/// Bytes per index entry, but for some conversions; a record has eight entries in every file here.
 pub const M: usize = 64;
 
 /// Which bootstrap and index a file has.
@@ -61,6 +60,8 @@ impl fmt::Display for Order {
 pub struct Plan {
     /// The capacity, a multiple of eight.
     pub slots: usize,
+    /// Bytes per index entry.
+    pub m: usize,
     /// How many of them, from the first on, hold a scan.
     pub used: usize,
     /// Records per scan.
@@ -76,7 +77,17 @@ pub struct Plan {
 impl Plan {
     /// Records of bootstrap and index.
     pub fn n(&self) -> usize {
-        self.slots * M / L + 1
+        self.slots / 8 + 1
+    }
+
+    /// Bytes per record.
+    pub fn l(&self) -> usize {
+        8 * self.m
+    }
+
+    /// Where a slot's entry begins.
+    pub fn home(&self, slot: usize) -> usize {
+        self.l() + (slot - 1) * self.m
     }
 
     fn place(&self, dice: &[usize], slot: usize) -> usize {
@@ -99,32 +110,33 @@ impl File {
     /// The file of a plan. The scan of each slot stands at the front of its records in the middle slot alone, which is
     /// the one that is shown and read.
     pub fn new(plan: Plan) -> File {
-        let mut map = Map::new(plan.room * L);
+        let l = plan.l();
+        let mut map = Map::new(plan.room * l);
         let dice = shuffled(plan.used);
         let n = plan.n();
         let mut highest = n;
         let bytes = map.bytes();
         // an index that was never written would stand on one page of zeros, which caches treat in their own way
-        bytes[..n * L].fill(0);
+        bytes[..n * l].fill(0);
         for slot in 1..=plan.used {
             let first = n + 1 + plan.place(&dice, slot) * (plan.run + plan.gap);
             let last = first + plan.run - 1;
             highest = highest.max(last);
-            put_run(bytes, plan.form, slot, first, last);
-            let entry = &mut bytes[L + (slot - 1) * M..][..M];
+            put_run(bytes, &plan, slot, first, last);
+            let entry = &mut bytes[plan.home(slot)..][..plan.m];
             entry[16..32].copy_from_slice(b"ORION A         ");
             entry[56..58].copy_from_slice(&520u16.to_be_bytes());
         }
         assert!(highest <= plan.room, "no room for {plan:?}");
-        for (i, number) in [n, highest - n, L, M, plan.used, 7].into_iter().enumerate() {
+        for (i, number) in [n, highest - n, l, plan.m, plan.used, 7].into_iter().enumerate() {
             put(bytes, plan.form, plan.form.word() * i, number);
         }
         bytes[31] = u8::from(plan.form == Form::Current);
         let mut file = File { plan, map };
         if plan.used > 0 {
             let (first, last) = file.run(file.middle());
-            let len = ((last - first + 1) * L).min(65_536);
-            file.map.bytes()[(first - 1) * L..][..len].copy_from_slice(&sample::scan(len, 1));
+            let len = ((last - first + 1) * l).min(65_536);
+            file.map.bytes()[(first - 1) * l..][..len].copy_from_slice(&sample::scan(len, 1));
         }
         file
     }
@@ -137,7 +149,8 @@ impl File {
     /// First and last record of a slot.
     pub fn run(&mut self, slot: usize) -> (usize, usize) {
         let size = self.plan.form.word();
-        let entry = &self.map.bytes()[L + (slot - 1) * M..];
+        let home = self.plan.home(slot);
+        let entry = &self.map.bytes()[home..];
         let word = |bytes: &[u8]| bytes.iter().fold(0, |word, byte| word << 8 | usize::from(*byte));
         (word(&entry[..size]), word(&entry[size..2 * size]))
     }
@@ -145,7 +158,7 @@ impl File {
     /// Makes the last slot in use share a record with the first one.
     pub fn share(mut self) -> File {
         let (first, last) = self.run(1);
-        put_run(self.map.bytes(), self.plan.form, self.plan.used, first, last);
+        put_run(self.map.bytes(), &self.plan, self.plan.used, first, last);
         self
     }
 }
@@ -162,8 +175,8 @@ fn put(bytes: &mut [u8], form: Form, at: usize, number: usize) {
 }
 
 /// Puts a slot's first and last, and of an old one that its scan is version 1.
-fn put_run(bytes: &mut [u8], form: Form, slot: usize, first: usize, last: usize) {
-    let at = L + (slot - 1) * M;
+fn put_run(bytes: &mut [u8], plan: &Plan, slot: usize, first: usize, last: usize) {
+    let (at, form) = (plan.home(slot), plan.form);
     put(bytes, form, at, first);
     put(bytes, form, at + form.word(), last);
     if form == Form::Old {

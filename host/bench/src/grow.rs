@@ -2,7 +2,7 @@
 
 use crate::call::{Call, Stage};
 use crate::clock::{Contender, contest, turns};
-use crate::file::{File, Form, Order, Plan};
+use crate::file::{File, Form, M, Order, Plan};
 use crate::limit;
 use crate::suite::{MOST, OLD_MOST, OLD_RUN};
 use face::Calls;
@@ -54,7 +54,8 @@ fn decoding(plans: &[Plan], budget: Duration) -> Vec<f64> {
         .iter_mut()
         .map(|file| {
             let mut row = vec![0; 2 * file.plan.slots];
-            turns(move || limit::decode(file.map.bytes(), Form::Current, file.plan.slots, &mut row))
+            let plan = file.plan;
+            turns(move || limit::decode(file.map.bytes(), &plan, &mut row))
         })
         .collect();
     contest(&mut contenders, budget)
@@ -94,20 +95,21 @@ pub fn with_slots(who: &str, calls: &Calls, budget: Duration) -> Vec<Growth> {
 }
 
 fn slot_plans(order: Order) -> Vec<Plan> {
-    let plan = Plan { slots: 0, used: 0, run: 8, gap: 1, order, room: MOST, form: Form::Current };
+    let plan = Plan { slots: 0, m: M, used: 0, run: 8, gap: 1, order, room: MOST, form: Form::Current };
     SLOTS.map(|slots| Plan { slots, used: slots, ..plan }).to_vec()
 }
 
 /// The same in the old form, as far as it can name the records.
 fn old_slot_plans(order: Order) -> Vec<Plan> {
-    let plan = Plan { slots: 0, used: 0, run: OLD_RUN - 1, gap: 1, order, room: OLD_MOST, form: Form::Old };
+    let plan = Plan { slots: 0, m: M, used: 0, run: OLD_RUN - 1, gap: 1, order, room: OLD_MOST, form: Form::Old };
     SLOTS.map(|slots| Plan { slots, used: slots, ..plan }).to_vec()
 }
 
 /// With the records, 4,000 to 1,000,000 of them, over which 1,024 scans are spread.
 pub fn with_records(who: &str, calls: &Calls, budget: Duration) -> Vec<Growth> {
     let plans = [4_000, 20_000, 100_000, 500_000, MOST].map(|room| {
-        let empty = Plan { slots: 1024, used: 1024, run: 1, gap: 0, order: Order::Random, room, form: Form::Current };
+        let empty =
+            Plan { slots: 1024, m: M, used: 1024, run: 1, gap: 0, order: Order::Random, room, form: Form::Current };
         Plan { gap: (room - empty.n() - 200) / 1024 - 1, ..empty }
     });
     lines(who, calls, &plans, "records", budget)

@@ -1,11 +1,22 @@
 //! What the bytes themselves cost: the work that no program with this job can leave out.
 
-use crate::file::{Form, L, M};
+use crate::file::{Form, Plan};
 use std::hint::black_box;
 
 /// First and last record of every slot, decoded into a row: one pass over the index.
-pub fn decode(file: &[u8], form: Form, slots: usize, row: &mut [u32]) {
-    let pairs = file[L..L + slots * M].chunks_exact(M).zip(row.chunks_exact_mut(2));
+pub fn decode(file: &[u8], plan: &Plan, row: &mut [u32]) {
+    let index = &file[plan.home(1)..plan.home(plan.slots + 1)];
+    // as fast as it can be: the compiler knows how far apart the entries are
+    match plan.m {
+        64 => decode_entries::<64>(index, plan.form, row),
+        128 => decode_entries::<128>(index, plan.form, row),
+        512 => decode_entries::<512>(index, plan.form, row),
+        m => unreachable!("no file here has entries of {m} bytes"),
+    }
+}
+
+fn decode_entries<const M: usize>(index: &[u8], form: Form, row: &mut [u32]) {
+    let pairs = index.chunks_exact(M).zip(row.chunks_exact_mut(2));
     match form {
         Form::Old => {
             for (entry, pair) in pairs {
@@ -24,8 +35,8 @@ pub fn decode(file: &[u8], form: Form, slots: usize, row: &mut [u32]) {
 }
 
 /// The scan copied into its records, one record at a time.
-pub fn copy(file: &mut [u8], at: usize, scan: &[u8]) {
-    for (record, piece) in file[at..].chunks_exact_mut(L).zip(scan.chunks(L)) {
+pub fn copy(file: &mut [u8], l: usize, at: usize, scan: &[u8]) {
+    for (record, piece) in file[at..].chunks_exact_mut(l).zip(scan.chunks(l)) {
         record[..piece.len()].copy_from_slice(black_box(piece));
         record[piece.len()..].fill(0);
     }

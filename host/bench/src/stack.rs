@@ -1,7 +1,7 @@
 //! The deepest stack of a call: a thread's stack is painted before it starts, and looked at after it has ended.
 
 use crate::call::{Call, Stage};
-use crate::file::{File, Form, Order, Plan};
+use crate::file::{File, Form, M, Order, Plan};
 use crate::map::Map;
 use crate::suite::{self, MOST, OLD_RUN};
 use face::Calls;
@@ -75,6 +75,8 @@ pub fn depths(calls: &Calls) -> Vec<Depth> {
         ("save", Call::BeginSave(65_536)),
         ("keep", Call::BeginKeep(65_536)),
         ("clear", Call::BeginClear),
+        ("to_current", Call::ToCurrent),
+        ("to_old", Call::ToOld),
     ];
     let mut depths: Vec<Depth> = alone
         .map(|(name, call)| Depth { name, bytes: deepest(call, &|stage| depth(&mut || stage.make(calls, call))) })
@@ -89,8 +91,9 @@ pub fn depths(calls: &Calls) -> Vec<Depth> {
 fn deepest(call: Call, measure: &dyn Fn(&mut Stage) -> usize) -> usize {
     let of = |form, order| {
         let plan = match form {
-            Form::Old => Plan { used: 4000, ..suite::old(order, OLD_RUN) },
-            Form::Current => Plan { slots: 4096, used: 4000, run: 128, gap: 1, order, room: MOST, form },
+            // a conversion is measured on what the old form can say, so that it is not refused
+            _ if form == Form::Old || call.is_move() => Plan { used: 4000, form, ..suite::old(order, OLD_RUN) },
+            _ => Plan { slots: 4096, m: M, used: 4000, run: 128, gap: 1, order, room: MOST, form },
         };
         measure(&mut Stage::new(File::new(plan), call))
     };

@@ -2,7 +2,7 @@
 
 use crate::call::Call;
 use crate::case::Case;
-use crate::file::{Form, Order, Plan};
+use crate::file::{Form, M, Order, Plan};
 
 /// The most records that a file has.
 pub const MOST: usize = 1_000_000;
@@ -12,7 +12,7 @@ pub const OLD_RUN: usize = 7;
 
 /// A full index.
 fn full(slots: usize, order: Order, run: usize) -> Plan {
-    Plan { slots, used: slots, run, gap: 0, order, room: MOST, form: Form::Current }
+    Plan { slots, m: M, used: slots, run, gap: 0, order, room: MOST, form: Form::Current }
 }
 
 /// A full index of 4,096 slots in the old form.
@@ -44,6 +44,19 @@ fn olds() -> Vec<Case> {
     for order in [Order::Rising, Order::Random, Order::Falling] {
         let plan = Plan { used: 4095, ..old(order, OLD_RUN) };
         cases.extend([Call::List, Call::Entry, Call::Show, Call::Read].map(|call| case(call, plan)));
+    }
+    cases
+}
+
+/// Conversions, of full indexes and of an empty one, with entries of 64, 128 and 512 bytes: either form into the other.
+fn moves() -> Vec<Case> {
+    let mut cases = Vec::new();
+    for (call, form) in [(Call::ToCurrent, Form::Old), (Call::ToOld, Form::Current)] {
+        for m in [M, 128, 512] {
+            let plan = |order| Plan { m, form, ..old(order, OLD_RUN) };
+            cases.extend([Order::Rising, Order::Random].map(|order| case(call, plan(order))));
+            cases.push(case(call, Plan { used: 0, ..plan(Order::Rising) }));
+        }
     }
     cases
 }
@@ -91,10 +104,11 @@ pub fn before() -> Vec<Case> {
 
 /// Every line.
 pub fn all() -> Vec<Case> {
-    [opens(1024), opens(4096), looks(), olds(), jobs(&[Order::Rising, Order::Random], &[512, 4_096, 65_536])].concat()
+    [opens(1024), opens(4096), looks(), olds(), moves(), jobs(&[Order::Rising, Order::Random], &[512, 4_096, 65_536])]
+        .concat()
 }
 
 /// Those that the verdicts rest on most.
 pub fn quick() -> Vec<Case> {
-    [opens(4096), looks(), olds(), jobs(&[Order::Rising, Order::Random], &[65_536])].concat()
+    [opens(4096), looks(), olds(), moves(), jobs(&[Order::Rising, Order::Random], &[65_536])].concat()
 }

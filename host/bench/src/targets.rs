@@ -48,6 +48,11 @@ fn is_old(line: &Line) -> bool {
     line.case.plan.form == Form::Old
 }
 
+/// Whether it is a conversion, which has to do with both.
+fn is_move(line: &Line) -> bool {
+    line.case.call.is_move()
+}
+
 /// An open of a full index of the current form with 4,096 slots that is not refused.
 fn is_full_open(line: &Line) -> bool {
     let case = &line.case;
@@ -79,8 +84,12 @@ pub fn verdicts(lines: &[Line], growths: &[Growth], stack: usize, left_alone: bo
         worst("open of a full index, any other order, the same", 6.0, opens().filter(|line| !rises(line)), |line| {
             line.beside_limit().middle
         }),
-        over_plain("any line over plain Rust", lines.iter().filter(|line| !is_old(line))),
-        over_plain("any line of the old form over plain Rust", lines.iter().filter(|line| is_old(line))),
+        over_plain("any line over plain Rust", lines.iter().filter(|line| !is_old(line) && !is_move(line))),
+        over_plain(
+            "any line of the old form over plain Rust",
+            lines.iter().filter(|line| is_old(line) && !is_move(line)),
+        ),
+        over_plain("any conversion over plain Rust", lines.iter().filter(|line| is_move(line))),
         Verdict { target: "growth with the slots, exponent", value: exponent, limit: 1.1, place: what },
         worst("a whole save over two opens and 1.2 times its copies", 1.0, saves, |line| {
             line.spread(save_beside).middle
