@@ -2,8 +2,9 @@
 //!
 //! As with what walks over entries elsewhere, each way is compiled by itself: `OLD` is the form that the file has.
 
-use crate::ground::bytes::{be16, be32, put16, put32};
-use crate::rules::boot::{Answer, Sizes, refuse};
+use crate::ground::bytes::{be16, be32, put16, put32, widened};
+use crate::ground::line::or;
+use crate::rules::boot::{Answer, Sizes, bootstrap, changeable, refuse};
 use crate::rules::index::{Run, judge, listed};
 
 /// What an old file says of a scan that is SDD version 1.
@@ -16,44 +17,92 @@ const MOST_OLD_COUNTER: u64 = u16::MAX as u64;
 const TOLD: usize = 64;
 
 pub fn to_current<const X: u32>(file: &[u8], out: &mut [u8]) -> Answer<()> {
-    let (sizes, out) = judged::<X, true>(file, out)?;
-    let version_one = |entry: &[u8]| be16(entry, 4) == VERSION_ONE;
-    if !used(file, &sizes).all(|entry| Run::of::<X, true>(entry).is_empty::<X>() || version_one(entry)) {
-        return refuse(19, 0);
+    if X == 132 {
+        changeable::<X>(file)?;
     }
-    let words = [sizes.n, sizes.d, sizes.l, sizes.m, sizes.u, sizes.counter, 0, 1];
-    write::<X, true>(file, &sizes, out, |record| {
-        words.into_iter().enumerate().for_each(|(i, word)| put32(record, 4 * i, word));
-    });
-    Ok(())
+    convert::<X, true>(file, out)
 }
 
 pub fn to_old<const X: u32>(file: &[u8], out: &mut [u8]) -> Answer<()> {
-    let (sizes, out) = judged::<X, false>(file, out)?;
-    // a scan's first record is no higher than its last
-    let fits = |run: Run| run.last <= MOST_OLD;
-    if sizes.kind != 0
-        || sizes.d > MOST_OLD
-        || sizes.counter > MOST_OLD_COUNTER
-        || !listed::<X, false>(file, &sizes).all(|(_, run)| fits(run))
+    convert::<X, false>(file, out)
+}
+
+fn convert<const X: u32, const OLD: bool>(file: &[u8], out: &mut [u8]) -> Answer<()> {
+    let judged = judged::<X, OLD>(file, out.len());
+    if let Err(why) = judged
+        && ((X == 169 && why.number == 17) || (X == 170 && why.number == 19))
     {
-        return refuse(19, 0);
+        let end = out.len().min(512);
+        out[..end].fill(0);
     }
-    let words = [sizes.n, sizes.d, sizes.l, sizes.m, sizes.u, sizes.counter];
-    write::<X, false>(file, &sizes, out, |record| {
-        words.into_iter().enumerate().for_each(|(i, word)| put16(record, 2 * i, word as u16));
-    });
+    let sizes = judged?;
+    if sizes.old != OLD {
+        // lines 133 and 134 alone let such a file through: all is said to be done
+        return Ok(());
+    }
+    let end = records(&sizes);
+    if X == 168 && out.len() > end {
+        out[end] = 0;
+    }
+    write::<X, OLD>(file, &sizes, &mut out[..end]);
     Ok(())
 }
 
-/// The sizes of a file that opens and has the form `OLD`, and the N records of `out`: open's own refusals, 17, and 19 for
-/// a file that has the other form, which is the wanted one.
-fn judged<'a, const X: u32, const OLD: bool>(file: &[u8], out: &'a mut [u8]) -> Answer<(Sizes, &'a mut [u8])> {
-    let sizes = judge::<X>(file)?.sizes;
-    let Some(out) = out.get_mut(..sizes.home(sizes.capacity() + 1)) else {
+/// The bytes of records 1 to N, which is where the last entry ends.
+fn records(sizes: &Sizes) -> usize {
+    sizes.home(sizes.capacity() + 1)
+}
+
+/// The sizes of a file that can be converted: open's own refusals, 17 and 19.
+fn judged<const X: u32, const OLD: bool>(file: &[u8], out_len: usize) -> Answer<Sizes> {
+    if X == 130 && out_len < records(&bootstrap::<X>(file)?) {
         return refuse(17, 0);
+    }
+    let sizes = if X == 131 { bootstrap::<X>(file)? } else { judge::<X>(file)?.sizes };
+    if (X == 127 && !goes::<X, OLD>(file, &sizes)) || (X == 128 && sizes.old != OLD) {
+        return refuse(19, 0);
+    }
+    if out_len < records(&sizes) + or::<X, _>(129, 0, 1) {
+        return refuse(17, 0);
+    }
+    if goes::<X, OLD>(file, &sizes) { Ok(sizes) } else { refuse(19, 0) }
+}
+
+/// Whether the file has the form `OLD`, and the other one can say what it says.
+fn goes<const X: u32, const OLD: bool>(file: &[u8], sizes: &Sizes) -> bool {
+    if sizes.old != OLD {
+        return X == if OLD { 133 } else { 134 };
+    }
+    if OLD { is_version_one::<X>(file, sizes) } else { fits_old::<X>(file, sizes) }
+}
+
+/// Whether every scan of an old file is SDD version 1.
+fn is_version_one<const X: u32>(file: &[u8], sizes: &Sizes) -> bool {
+    let version_one = |entry: &[u8]| {
+        let magic = or::<X, _>(145, be16(entry, 4), be16(entry, 4) & 0xff);
+        magic == VERSION_ONE || (X == 144 && magic == 1)
     };
-    if sizes.old == OLD { Ok((sizes, out)) } else { refuse(19, 0) }
+    let empty = |entry: &[u8]| Run::of::<X, true>(entry).is_empty::<X>() && X != 146;
+    used(file, sizes).all(|entry| empty(entry) || version_one(entry))
+        && (X != 147 || (sizes.u + 1..=sizes.capacity()).all(|slot| version_one(&file[sizes.home(slot)..])))
+}
+
+/// Whether the old form has room for the numbers of a current file, and for its type.
+fn fits_old<const X: u32>(file: &[u8], sizes: &Sizes) -> bool {
+    // a scan's first record is no higher than its last
+    let most = match X {
+        139 => MOST_OLD + 1,
+        140 => MOST_OLD - 1,
+        _ => MOST_OLD,
+    };
+    let fits = |run: Run| run.last <= most || (X == 141 && run.first == MOST_OLD + 1);
+    let data = or::<X, _>(138, sizes.d, sizes.n + sizes.d);
+    let most_data = if X == 137 { MOST_OLD - 1 } else { MOST_OLD + or::<X, _>(136, 0, 1) };
+    let most_counter = if X == 143 { MOST_OLD_COUNTER - 1 } else { MOST_OLD_COUNTER + or::<X, _>(142, 0, 1) };
+    (sizes.kind == 0 || X == 135)
+        && data <= most_data
+        && sizes.counter <= most_counter
+        && listed::<X, false>(file, sizes).all(|(_, run)| fits(run))
 }
 
 /// The entries in use.
@@ -61,24 +110,62 @@ fn used<'a>(file: &'a [u8], sizes: &Sizes) -> impl Iterator<Item = &'a [u8]> {
     file[sizes.home(1)..sizes.home(sizes.u + 1)].chunks_exact(sizes.m as usize)
 }
 
-/// Writes all N records: record 1 with these words, the entries in use in the other form, zeros for the rest.
-fn write<const X: u32, const OLD: bool>(file: &[u8], sizes: &Sizes, out: &mut [u8], words: impl Fn(&mut [u8])) {
-    let (record, index) = out.split_at_mut(sizes.l as usize);
+/// N, D, L, M, U and counter, which both forms begin with.
+fn numbers<const X: u32, const OLD: bool>(file: &[u8], sizes: &Sizes) -> [u64; 6] {
+    let Sizes { n, mut d, l, m, mut u, mut counter, .. } = *sizes;
+    match X {
+        162 => counter = 0,
+        163 if OLD => counter = widened(counter as i16),
+        164 => u = listed::<X, OLD>(file, sizes).map(|(slot, _)| slot).last().unwrap_or(0),
+        165 => u = 0,
+        166 => d = listed::<X, OLD>(file, sizes).map(|(_, run)| run.last - n).max().unwrap_or(0),
+        _ => (),
+    }
+    [n, d, l, m, u, counter]
+}
+
+/// Record 1: the words of the other form, and zeros.
+fn write_first<const X: u32, const OLD: bool>(file: &[u8], sizes: &Sizes, record: &mut [u8]) {
     record.fill(0);
-    words(record);
+    if X == 150 {
+        record[32..].copy_from_slice(&file[32..sizes.l as usize]);
+    }
+    let numbers = numbers::<X, OLD>(file, sizes).into_iter().enumerate();
+    if OLD {
+        numbers.for_each(|(i, number)| put32(record, 4 * i, number));
+        put32(record, 28, or::<X, _>(167, 1, 0));
+    } else {
+        numbers.for_each(|(i, number)| put16(record, 2 * i, number as u16));
+        if X == 171 {
+            put32(record, 28, 1);
+        }
+    }
+}
+
+/// Writes all N records: record 1, the entries in use in the other form, zeros for the rest.
+fn write<const X: u32, const OLD: bool>(file: &[u8], sizes: &Sizes, out: &mut [u8]) {
+    let (record, index) = out.split_at_mut(sizes.l as usize);
+    write_first::<X, OLD>(file, sizes, record);
     // what lies above U is empty
     let (entries, rest) = index.split_at_mut((sizes.u * sizes.m) as usize);
-    rest.fill(0);
+    if X != 153 {
+        rest.fill(0);
+    }
     for (from, to) in used(file, sizes).zip(entries.chunks_exact_mut(sizes.m as usize)) {
         match (from.first_chunk(), to.split_first_chunk_mut()) {
-            (Some(from), Some((told, padding))) if !Run::of::<X, OLD>(from).is_empty::<X>() => {
+            (Some(told), Some((to, padding))) if !Run::of::<X, OLD>(told).is_empty::<X>() => {
                 if OLD {
-                    put_current(from, told)
+                    put_current::<X>(told, to)
                 } else {
-                    put_old(from, told)
+                    put_old::<X>(told, to)
                 }
                 padding.fill(0);
+                if X == 149 {
+                    padding.copy_from_slice(&from[TOLD..]);
+                }
             }
+            _ if X == 151 => to.copy_from_slice(from),
+            _ if X == 152 => (),
             _ => to.fill(0),
         }
     }
@@ -86,22 +173,48 @@ fn write<const X: u32, const OLD: bool>(file: &[u8], sizes: &Sizes, out: &mut [u
 
 /// An old entry as the current form has it. The numbers of one that is in range are not negative.
 #[inline]
-fn put_current(from: &[u8; TOLD], to: &mut [u8; TOLD]) {
+fn put_current<const X: u32>(from: &[u8; TOLD], to: &mut [u8; TOLD]) {
     let both = be32(from, 0);
+    let both = or::<X, _>(159, both, both.rotate_left(16));
     put32(to, 0, u64::from(both >> 16));
     put32(to, 4, u64::from(both & 0xffff));
-    to[8..60].copy_from_slice(&from[8..60]);
-    to[60..62].copy_from_slice(&from[6..8]);
+    put_fields::<X>(from, to);
+    let position = or::<X, _>(156, 6, 60);
+    to[60..62].copy_from_slice(&from[position..position + 2]);
     to[62..].fill(0);
+    match X {
+        148 => to[62..].copy_from_slice(&from[62..]),
+        154 => to[60..62].fill(0),
+        _ => (),
+    }
 }
 
 /// An entry of the current form, whose numbers fit, as the old form has it.
 #[inline]
-fn put_old(from: &[u8; TOLD], to: &mut [u8; TOLD]) {
-    put16(to, 0, be32(from, 0) as u16);
-    put16(to, 2, be32(from, 4) as u16);
-    put16(to, 4, VERSION_ONE as u16);
+fn put_old<const X: u32>(from: &[u8; TOLD], to: &mut [u8; TOLD]) {
+    put16(to, or::<X, _>(160, 0, 2), be32(from, 0) as u16);
+    put16(to, or::<X, _>(160, 2, 0), be32(from, 4) as u16);
+    let magic = match X {
+        157 => 0,
+        158 => 1,
+        _ => VERSION_ONE,
+    };
+    put16(to, 4, magic as u16);
     to[6..8].copy_from_slice(&from[60..62]);
-    to[8..60].copy_from_slice(&from[8..60]);
+    put_fields::<X>(from, to);
     to[60..].fill(0);
+    match X {
+        148 => to[62..].copy_from_slice(&from[62..]),
+        155 => to[6..8].fill(0),
+        _ => (),
+    }
+}
+
+/// What both forms have at the same place.
+#[inline]
+fn put_fields<const X: u32>(from: &[u8; TOLD], to: &mut [u8; TOLD]) {
+    to[8..60].copy_from_slice(&from[8..60]);
+    if X == 161 {
+        to[59] = 0;
+    }
 }
