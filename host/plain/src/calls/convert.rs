@@ -142,6 +142,9 @@ fn write_first<const X: u32, const OLD: bool>(file: &[u8], sizes: &Sizes, record
     }
 }
 
+/// Entries shorter than this have little padding: to zero all of it at once takes less than to do it behind each of them.
+const LONG: u64 = 256;
+
 /// Writes all N records: record 1, the entries in use in the other form, zeros for the rest.
 fn write<const X: u32, const OLD: bool>(file: &[u8], sizes: &Sizes, out: &mut [u8]) {
     let (record, index) = out.split_at_mut(sizes.l as usize);
@@ -151,24 +154,32 @@ fn write<const X: u32, const OLD: bool>(file: &[u8], sizes: &Sizes, out: &mut [u
     if X != 153 {
         rest.fill(0);
     }
+    let long = sizes.m >= LONG || X == 152;
+    if !long {
+        entries.fill(0);
+    }
     for (from, to) in used(file, sizes).zip(entries.chunks_exact_mut(sizes.m as usize)) {
         match (from.first_chunk(), to.split_first_chunk_mut()) {
             (Some(told), Some((to, padding))) if !Run::of::<X, OLD>(told).is_empty::<X>() => {
-                if OLD {
-                    put_current::<X>(told, to)
-                } else {
-                    put_old::<X>(told, to)
+                put_other::<X, OLD>(told, to);
+                if long {
+                    padding.fill(0);
                 }
-                padding.fill(0);
                 if X == 149 {
                     padding.copy_from_slice(&from[TOLD..]);
                 }
             }
             _ if X == 151 => to.copy_from_slice(from),
-            _ if X == 152 => (),
-            _ => to.fill(0),
+            _ if long && X != 152 => to.fill(0),
+            _ => (),
         }
     }
+}
+
+/// An entry as the other form has it.
+#[inline]
+fn put_other<const X: u32, const OLD: bool>(from: &[u8; TOLD], to: &mut [u8; TOLD]) {
+    if OLD { put_current::<X>(from, to) } else { put_old::<X>(from, to) }
 }
 
 /// An old entry as the current form has it. The numbers of one that is in range are not negative.
