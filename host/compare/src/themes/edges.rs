@@ -1,6 +1,7 @@
 //! Sizes at the very edge of their ranges, with all else as it should be.
 
 use super::files;
+use super::shared::moves;
 use crate::call::Call;
 use crate::cases::make;
 use crate::cases::shape::{Form, Shape};
@@ -96,13 +97,14 @@ fn one_run(rng: &mut Rng, file: &mut [u8], shape: &Shape, d: u64) {
     shape.put_run(file, 1, first, last);
 }
 
-/// What a reader asks of a file, and what a blank makes of it.
+/// What a reader asks of a file, what it is in the other form, and what a blank makes of it.
 pub fn ask(world: &mut World, shape: &Shape) -> Round {
     world.call(Call::Open)?;
     files::list(world, shape)?;
     for slot in [0, 1, shape.capacity(), shape.capacity() + 1] {
         world.call(Call::Entry { slot })?;
     }
+    moves::ask(world, shape)?;
     world.call(Call::Blank { n: shape.n, l: shape.l, m: shape.m })?;
     world.call(Call::Open)?;
     Ok(())

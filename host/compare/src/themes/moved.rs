@@ -39,9 +39,9 @@ fn spoil(rng: &mut Rng, file: &mut Vec<u8>, shape: &Shape) {
         (Form::Current, 1..=3) => shape.put_word(file, 7, 1),
         (Form::Current, _) => shape.put_word(file, 6, rng.pick(&[65_535, 65_536, 65_537, 0x8000_0000, 0xffff_ffff])),
         (Form::Old, _) => {
-            let slot = rng.between(1, shape.capacity());
-            let filled: Vec<u64> = (1..=shape.capacity()).filter(|slot| shape.run(file, *slot) != (0, 0)).collect();
-            let slot = if which < 6 && !filled.is_empty() { rng.pick(&filled) } else { slot };
+            let filled = filled(file, shape);
+            let any = rng.between(1, shape.capacity());
+            let slot = if which < 6 && !filled.is_empty() { rng.pick(&filled) } else { any };
             let magic = rng.pick(&[0, 1, 1, 2, 3, 3, 0x0102, 0x0200, 0x8002, 0xffff]);
             put16(file, home(shape, slot) + 4, magic);
         }
@@ -79,12 +79,16 @@ fn hold(right: bool, what: &str) -> Round {
     if right { Ok(()) } else { Err(Disagreement { what: format!("there and home: {what}") }) }
 }
 
-/// The slots that are asked about: those with a scan, but not too many, and one more.
+/// The slots that are asked about: all that have a scan, and one more. The list says which are empty.
 fn asked(world: &mut World, shape: &Shape) -> Vec<u64> {
-    let filled = (1..=shape.capacity()).filter(|slot| shape.run(&world.file, *slot) != (0, 0));
-    let mut slots: Vec<u64> = filled.take(12).collect();
+    let mut slots = filled(&world.file, shape);
     slots.push(slots::any(world, shape));
     slots
+}
+
+/// The slots with a scan.
+fn filled(file: &[u8], shape: &Shape) -> Vec<u64> {
+    (1..=shape.capacity()).filter(|slot| shape.run(file, *slot) != (0, 0)).collect()
 }
 
 /// What a file shows but for its form: sizes, list, and for each slot its entry, its records and its scan.
