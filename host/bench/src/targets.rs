@@ -64,16 +64,22 @@ fn save_beside(times: &Times) -> f64 {
     times.library / (2.0 * times.open + 1.2 * times.copies)
 }
 
-/// All verdicts.
-pub fn verdicts(lines: &[Line], growths: &[Growth], stack: usize, left_alone: bool) -> Vec<Verdict> {
-    let rises = |line: &Line| line.case.plan.order == Order::Rising;
-    let opens = || lines.iter().filter(|line| is_full_open(line));
-    let saves = lines.iter().filter(|line| matches!(line.case.call, Call::Save(_)));
-    let steepest = growths
+/// The highest exponent of growth with the slots, and of what.
+fn steepest(growths: &[Growth]) -> (f64, String) {
+    let exponents = growths
         .iter()
         .filter(|growth| growth.by == "slots")
         .filter_map(|growth| growth.exponent().map(|exponent| (exponent, growth.what.clone())));
-    let (exponent, what) = steepest.fold((0.0, String::new()), |a, b| if b.0 > a.0 { b } else { a });
+    exponents.fold((0.0, String::new()), |a, b| if b.0 > a.0 { b } else { a })
+}
+
+/// All verdicts.
+pub fn verdicts(lines: &[Line], growths: &[Growth], stack: usize, left_alone: bool) -> Vec<Verdict> {
+    let rises = |line: &Line| line.case.plan.order == Order::Rising;
+    let of = |kind: &dyn Fn(&Line) -> bool| lines.iter().filter(|line| kind(line)).collect::<Vec<_>>().into_iter();
+    let opens = || of(&is_full_open);
+    let saves = of(&|line| matches!(line.case.call, Call::Save(_)));
+    let (exponent, what) = steepest(growths);
     vec![
         worst(
             "open of a full index, rising, over the decoding pass",
@@ -84,12 +90,9 @@ pub fn verdicts(lines: &[Line], growths: &[Growth], stack: usize, left_alone: bo
         worst("open of a full index, any other order, the same", 6.0, opens().filter(|line| !rises(line)), |line| {
             line.beside_limit().middle
         }),
-        over_plain("any line over plain Rust", lines.iter().filter(|line| !is_old(line) && !is_move(line))),
-        over_plain(
-            "any line of the old form over plain Rust",
-            lines.iter().filter(|line| is_old(line) && !is_move(line)),
-        ),
-        over_plain("any conversion over plain Rust", lines.iter().filter(|line| is_move(line))),
+        over_plain("any line over plain Rust", of(&|line| !is_move(line) && !is_old(line))),
+        over_plain("any line of the old form over plain Rust", of(&|line| !is_move(line) && is_old(line))),
+        over_plain("any conversion over plain Rust", of(&is_move)),
         Verdict { target: "growth with the slots, exponent", value: exponent, limit: 1.1, place: what },
         worst("a whole save over two opens and 1.2 times its copies", 1.0, saves, |line| {
             line.spread(save_beside).middle

@@ -50,7 +50,7 @@ fn spoil(rng: &mut Rng, file: &mut Vec<u8>, shape: &Shape) {
 
 /// Converts the file, joins what was written with the file's own data, and asks what it shows; then home again.
 /// Where padding and empty entries are zeros (`tidy`) the bytes at home are those that set out. Where they are not, they
-/// are from the first way home on, so that the second way there gives what the first one gave.
+/// are from the first way home on, so that the second way there and home gives what the first one gave.
 pub fn there_and_home(world: &mut World, shape: &Shape, tidy: bool) -> Round {
     let own = world.file[..(shape.n * shape.l) as usize].to_vec();
     let slots = asked(world, shape);
@@ -60,8 +60,8 @@ pub fn there_and_home(world: &mut World, shape: &Shape, tidy: bool) -> Round {
     let back = go(world, shape, shape.form)?;
     hold(shown(world, &slots)? == before, "a file that came home does not show what it showed")?;
     hold(!tidy || back == own, "a file with nothing but zeros between came home with other bytes")?;
-    let again = go(world, shape, shape.other().form)?;
-    hold(again == there, "the second way there gives other bytes than the first")?;
+    let again = [go(world, shape, shape.other().form)?, go(world, shape, shape.form)?];
+    hold(again == [there, back], "the second way there and home gives other bytes than the first")?;
     world.tally.moves.count_way(!shape.is_old(), tidy);
     Ok(())
 }
