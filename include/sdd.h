@@ -14,7 +14,8 @@
  *   anything, also null. `about` is 54 readable bytes. What is lent to one call does not overlap.
  * - It computes with integers alone. A scan's two lengths, which are doubles, are worked out from their
  *   bits, and an entry's floats are handed on, so that a processor without floats needs no routine
- *   for them: the library asks for memcpy and memset, and for nothing else.
+ *   for them: the library asks for memcpy and memset, where a processor has no loads of any place for
+ *   memmove too, and for nothing else.
  * - Only memory lent as not `const` is ever written, and only where the call's own comment says so.
  *   A refused call writes nothing.
  * - `why` is {0, 0} where the call is accepted. Else it is the paper's refusal number with its slot
