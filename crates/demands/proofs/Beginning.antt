@@ -99,7 +99,7 @@ pub record-one : RecordOne
 record-one f z o op w t =
     let B : Starts z f op (begin f op .job) = starts f z o op w t in
     let Y = B .begins .ready in
-    let file : (i : ℕ) → stateAfter f op i .file ≡ fileAt z f (scanOf op) (begin f op .job) i = λ i. ap (λ (s : State). s .file) (steps-are (B .begins) i) in
+    let file : (i : ℕ) → stateAfter f op i .file ≡ fileAt f (scanOf op) (begin f op .job) i = λ i. ap (λ (s : State). s .file) (steps-are (B .begins) i) in
     record {
       before = λ i h. ap sizesOf (file i) ∙ rows-sound Y i (omega (arith, B .count)) .booted .reads;
       after = λ i h. ap sizesOf (file i) ∙ late-sound Y i (omega (arith, B .count)) .booted .reads ∙ sizes-are f z op t;

@@ -64,10 +64,10 @@ module _ {z : Sizes} {f : List ℕ} {op : Op} {j : Job} (B : Starts z f op j) wh
   late : (i : ℕ) → K + 2 ≤ i → (x y : Held) → y ≡ cond (leb (recordsOf z op + 2) i) y x
   late i h x y = rw (le-leb (recordsOf z op + 2) i (omega (arith, B .count)))
 
-  end-held : (t : ℕ) → 1 ≤ t → t ≤ capacityOf z → heldAt (fileAt z f (scanOf op) j (suc (suc K))) z t ≡ put (heldAt f z) (j .slot) (given f z op) t
+  end-held : (t : ℕ) → 1 ≤ t → t ≤ capacityOf z → heldAt (fileAt f (scanOf op) j (suc (suc K))) z t ≡ put (heldAt f z) (j .slot) (given f z op) t
   end-held t a b =
       let Y = B .begins .ready in
-      let g : List ℕ = fileAt z f (scanOf op) j (suc (suc K)) in
+      let g : List ℕ = fileAt f (scanOf op) j (suc (suc K)) in
       ⊎-elim
       (λ (q : t ≡ j .slot).
       rw (q, eq-eqb (j .slot) (j .slot) refl)
@@ -77,7 +77,7 @@ module _ {z : Sizes} {f : List ℕ} {op : Op} {j : Job} (B : Starts z f op j) wh
       (held-is g z t (shownOf f z t) (entryAt f z t) (end-others Y t a b q) (end-entries Y t a b q)))
       (same-or t (j .slot))
 
-  pub outcome-at : (i : ℕ) → Outcome z (fileAt z f (scanOf op) j i) (now i) (times i)
+  pub outcome-at : (i : ℕ) → Outcome z (fileAt f (scanOf op) j i) (now i) (times i)
   outcome-at i =
       let Y = B .begins .ready in
       ⊎-elim
@@ -85,7 +85,7 @@ module _ {z : Sizes} {f : List ℕ} {op : Op} {j : Job} (B : Starts z f op j) wh
       ⊎-elim
       (λ (l : i < K + 2).
       let e : i ≡ suc K = omega arith in
-      subst (λ (n : ℕ). Outcome z (fileAt z f (scanOf op) j n) (now i) (times i)) (sym e)
+      subst (λ (n : ℕ). Outcome z (fileAt f (scanOf op) j n) (now i) (times i)) (sym e)
       (record {
         d = sizesAfter z j .d;
         u = sizesAfter z j .u;

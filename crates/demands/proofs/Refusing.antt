@@ -33,7 +33,7 @@ use Rattle.paper.specs.Sizes.{sizesOf, versionOf, capacityOf, homeOf, startOf, 
 use Rattle.paper.specs.Index.{runOf, empty, shownOf, openChecks, openOf, Lies, Sound}
 use Rattle.paper.specs.Scan.{startsOf, classesOf, headlen, datalen, classIn, ruledOf, ofRuled, classOf, dataOf, Rule}
 use Rattle.paper.specs.Look.{listOf, listedOf, noSlot, heldChecks, slotChecks, otherScan, readChecks, foundOf, showOf, readOf, InIndex}
-use Rattle.paper.specs.Store.{blankSizes, blankTests, blankChecks, blankOf, recordsFor, freeAt, freePlace, emptySlot, refused, placeFor, keepSlot, reasonOf, scanChecks, saveOf, keepOf, clearOf, countOf, writesOf}
+use Rattle.paper.specs.Store.{blankSizes, blankTests, blankChecks, blankOf, recordsFor, freeAt, freePlace, emptySlot, refused, placeFor, keepSlot, reasonOf, scanChecks, saveOf, keepOf, clearOf, totalOf}
 use Rattle.paper.specs.Step.{agrees, hasLeft, wroteOf, stands, confirmed, confirmOf, stepAnswer, Agreeing, Standing}
 use Rattle.paper.specs.Convert.{otherMagic, wideRun, convertChecks, convertOf}
 use Rattle.paper.proofs.Converting.{magic-facts, facts-magic, narrow-facts, facts-narrow, going-facts, facts-going}
@@ -41,7 +41,7 @@ use Rattle.paper.proofs.Forms.{one-facts, facts-one}
 use Rattle.paper.proofs.Opening.{shaped-facts, facts-shaped, empty-facts, facts-empty, full-facts, facts-full, then-refused, then-opens, open-reads}
 use Rattle.paper.proofs.Rules.{keeps-lengths}
 use Rattle.paper.proofs.Reasons.{ruleOf, rule-facts, facts-rule, reason-least, some-reason}
-use Rattle.paper.proofs.Writes.{length-writes, some-record}
+use Rattle.paper.proofs.Writes.{some-record}
 use Rattle.paper.proofs.Agreement.{agreed, agreeing, stood, standing}
 use Rattle.paper.proofs.Free.{FreeAt, facts-free, place-free, free-nobody}
 use Rattle.paper.proofs.Begins.{slot-facts, facts-slot}
@@ -243,19 +243,16 @@ module _ (f scan : List ℕ) (j : Job) where
   left-checks true = []
   left-checks false = openChecks f ++ ds
 
-  agree-row : (left : Bool) → hasLeft (sizesOf f) scan j ≡ left → Meets (check (not (agrees f scan j)) Disagrees ∷ left-checks left) (StepRow f scan j)
+  agree-row : (left : Bool) → hasLeft (sizesOf f) j ≡ left → Meets (check (not (agrees f scan j)) Disagrees ∷ left-checks left) (StepRow f scan j)
   agree-row left q =
       one (λ t h. true≢false (agreeing f scan j (sizesOf f) h) (not-true _ t)) (λ t. agreed f scan j (not-false _ t)) (λ a. go left q a)
     where
-      n : length (writesOf (sizesOf f) j scan) ≡ countOf (sizesOf f) j + 2
-      n = length-writes (sizesOf f) j scan
+      go : (left : Bool) → hasLeft (sizesOf f) j ≡ left → Agreeing f scan j (sizesOf f)
+          → Meets (left-checks left) (only-if (j .written ≡ totalOf (sizesOf f) j) (OpenRow f (asks (Standing f scan j (sizesOf f)) Differs end)))
+      go true q a = not-asked (λ e. omega (arith, ltb-true (j .written) (totalOf (sizesOf f) j) q))
+      go false q a = asked-so (omega (arith, ltb-false (j .written) (totalOf (sizesOf f) j) q, a .left)) stand-row
 
-      go : (left : Bool) → hasLeft (sizesOf f) scan j ≡ left → Agreeing f scan j (sizesOf f)
-          → Meets (left-checks left) (only-if (j .written ≡ countOf (sizesOf f) j + 2) (OpenRow f (asks (Standing f scan j (sizesOf f)) Differs end)))
-      go true q a = not-asked (λ e. omega (arith, ltb-true (j .written) (length (writesOf (sizesOf f) j scan)) q, n))
-      go false q a = asked-so (omega (arith, ltb-false (j .written) (length (writesOf (sizesOf f) j scan)) q, n, a .left)) stand-row
-
-  step-told : (a left : Bool) → agrees f scan j ≡ a → hasLeft (sizesOf f) scan j ≡ left
+  step-told : (a left : Bool) → agrees f scan j ≡ a → hasLeft (sizesOf f) j ≡ left
       → Told (stepSays (cond a (cond left (wroteOf (sizesOf f) scan j) (confirmOf f scan j (openOf f))) (step.Refused Disagrees))) (StepRow f scan j)
   step-told a true p q =
       subst (λ (b : Bool). Told (stepSays (cond b (wroteOf (sizesOf f) scan j) (step.Refused Disagrees))) (StepRow f scan j)) p
@@ -294,7 +291,7 @@ refused-exactly =
       keep-scan = λ f scan about.
           told (λ (b : Begun). takenSays (b .answer)) refused _ (λ r. refl) refl (change-row f (λ S. keep-asks f (scan-row f scan S)));
       clear-slot = λ f slot. told (λ (b : Begun). takenSays (b .answer)) refused _ (λ r. refl) refl (change-row f (λ S. held-row f slot nothing));
-      step-job = λ f scan j. step-told f scan j (agrees f scan j) (hasLeft (sizesOf f) scan j) refl refl;
+      step-job = λ f scan j. step-told f scan j (agrees f scan j) (hasLeft (sizesOf f) j) refl refl;
       blank = λ f n l m. told takenSays taken.Refused taken.Accepted (λ r. refl) refl (blank-row f n l m);
       convert = λ v f out. told takenSays taken.Refused taken.Accepted (λ r. refl) refl (convert-row v f out);
     }

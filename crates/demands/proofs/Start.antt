@@ -16,19 +16,20 @@ use Rattle.paper.specs.declared.job.Begun.{Begun}
 use Rattle.paper.specs.declared.job.Step.the-variants.{Saved, Cleared}
 use Rattle.paper.specs.Sizes.{sizesOf}
 use Rattle.paper.specs.Index.{openOf}
-use Rattle.paper.specs.Store.{saveOf, keepOf, clearOf, countOf, paddedOf, entryAfter}
+use Rattle.paper.specs.Store.{saveOf, keepOf, clearOf, countOf, paddedOf, entryAfter, totalOf}
 use Rattle.paper.specs.Step.{stepJob}
 use Rattle.paper.proofs.Opening.{open-reads}
-use Rattle.paper.proofs.Ready.{fileAt}
+use Rattle.paper.proofs.Ready.{fileAt, file-start}
 use Rattle.paper.proofs.Stages.{jobAt, job-start, stage-file, stage-job}
 use Rattle.paper.proofs.Begins.{Begins, save-taken, taken-save, keep-taken, taken-keep, clear-is-taken, taken-is-clear, save-begins, keep-begins, clear-begins}
-use Rattle.demands.specs.History.{Op, save, keep, clear, Whole, begin, scanOf, recordsOf, isAccepted, takes, next, steps, given}
+use Rattle.demands.specs.History.{Op, save, keep, clear, Whole, begin, scanOf, recordsOf, writesBy, isAccepted, takes, next, steps, given}
 use Rattle.demands.specs.Survival.{confirmed}
 
 -- the job j of an operation: ready, and with what the operation gives
 pub record Starts (z : Sizes) (f : List ℕ) (op : Op) (j : Job) : Type 0 where
   pub begins : Begins z f (scanOf op) j
   pub count : countOf z j ≡ recordsOf z op
+  pub total : totalOf z j ≡ writesBy f z op
   pub bytes : paddedOf z j (scanOf op) ≡ given f z op .records
   pub entry : entryAfter z j ≡ given f z op .entry
   pub confirms : (c : ℕ) → cond (j .saves) (Saved 0 c) (Cleared 0 c) ≡ confirmed op c
@@ -45,6 +46,7 @@ starts-own f (save slot scan about) w e =
     (record {
       begins = save-begins f slot scan about w t;
       count = refl;
+      total = refl;
       bytes = refl;
       entry = refl;
       confirms = λ c. refl;
@@ -56,6 +58,7 @@ starts-own f (keep scan about) w e =
     (record {
       begins = keep-begins f scan about w t;
       count = refl;
+      total = refl;
       bytes = refl;
       entry = refl;
       confirms = λ c. refl;
@@ -67,6 +70,7 @@ starts-own f (clear slot) w e =
     (record {
       begins = clear-begins f slot t;
       count = refl;
+      total = refl;
       bytes = pad-none (0 * z .l) [] (omega (arith, zero-mul (z .l)));
       entry = refl;
       confirms = λ c. refl;
@@ -77,9 +81,9 @@ starts f z o op w e = subst (λ (y : Sizes). Starts y f op (begin f op .job)) (o
 
 -- file and job after i steps
 pub steps-are : {z : Sizes} {f scan : List ℕ} {j : Job} → Begins z f scan j → (i : ℕ)
-    → steps scan (record { file = f; job = j }) i ≡ record { file = fileAt z f scan j i; job = jobAt z j i }
-steps-are {z} {f} {scan} {j} B zero = ap (λ (k : Job). record { file = f; job = k }) (sym (job-start z j (B .fresh)))
+    → steps scan (record { file = f; job = j }) i ≡ record { file = fileAt f scan j i; job = jobAt z f scan j i }
+steps-are {z} {f} {scan} {j} B zero = ap (λ (g : List ℕ). record { file = g; job = j }) (sym (file-start f scan j)) ∙ ap (λ (k : Job). record { file = fileAt f scan j 0; job = k }) (sym (job-start (B .agreeing) (B .fresh)))
 steps-are {z} {f} {scan} {j} B (suc i) =
     ap (next scan) (steps-are B i)
-    ∙ ap (λ (g : List ℕ). record { file = g; job = stepJob (fileAt z f scan j i) scan (jobAt z j i) }) (stage-file (B .ready) (B .agreeing) i)
-    ∙ ap (λ (k : Job). record { file = fileAt z f scan j (suc i); job = k }) (stage-job (B .ready) (B .agreeing) i)
+    ∙ ap (λ (g : List ℕ). record { file = g; job = stepJob (fileAt f scan j i) scan (jobAt z f scan j i) }) (stage-file (B .ready) (B .agreeing) i)
+    ∙ ap (λ (k : Job). record { file = fileAt f scan j (suc i); job = k }) (stage-job (B .ready) (B .agreeing) i)

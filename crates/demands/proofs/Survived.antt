@@ -19,14 +19,14 @@ use Rattle.paper.specs.declared.job.Step.the-variants.{Wrote}
 use Rattle.paper.specs.Sizes.{capacityOf, recordOf, startOf}
 use Rattle.paper.specs.Index.{runOf, empty, Full, shownOf, slotsOf, openOf, Lies, Sound}
 use Rattle.paper.specs.Look.{listOf}
-use Rattle.paper.specs.Store.{Write, countOf, writesOf}
+use Rattle.paper.specs.Store.{Write, totalOf, writesOf}
 use Rattle.paper.specs.Step.{isConfirmed, noWrite, stepAnswer}
 use Rattle.paper.proofs.Sizing.{less, times}
 use Rattle.paper.proofs.Opening.{facts-empty, facts-full, inside-all, slots-all, lies-end, sound-open, open-reads}
 use Rattle.paper.proofs.Writes.{writes-row, writes-boot, writes-entry}
 use Rattle.paper.proofs.Ready.{fileAt}
-use Rattle.paper.proofs.Stages.{jobAt, stage-wrote, stage-confirms}
-use Rattle.demands.specs.History.{Op, Whole, begin, scanOf, recordsOf, slotOf, takes, State, answerAfter, reached, heldAt, Holding, Held, holds}
+use Rattle.paper.proofs.Stages.{jobAt, sizesAt, stage-wrote, stage-confirms}
+use Rattle.demands.specs.History.{Op, Whole, begin, scanOf, recordsOf, writesBy, slotOf, takes, State, answerAfter, reached, heldAt, Holding, Held, holds}
 use Rattle.demands.specs.Survival.{some, PowerCut, confirmed, Confirmed, Answers, Confirms}
 use Rattle.demands.proofs.Start.{Starts, starts, steps-are}
 use Rattle.demands.proofs.Histories.{history}
@@ -86,37 +86,41 @@ module _ (f : List ℕ) (z : Sizes) (o : openOf f ≡ Opens z) (op : Op) (w : Wh
   B : Starts z f op (begin f op .job)
   B = starts f z o op w t
 
-  answer-is : (i : ℕ) → answerAfter f op i ≡ stepAnswer (fileAt z f (scanOf op) j i) (scanOf op) (jobAt z j i)
+  answer-is : (i : ℕ) → answerAfter f op i ≡ stepAnswer (fileAt f (scanOf op) j i) (scanOf op) (jobAt z f (scanOf op) j i)
   answer-is i = ap (λ (s : State). stepAnswer (s .file) (scanOf op) (s .job)) (steps-are (B .begins) i)
 
-  wrote : (i : ℕ) → i < recordsOf z op + 2 → answerAfter f op i ≡ Wrote (getD (writesOf z j (scanOf op)) i noWrite .record-no) (i + 1)
-  wrote i h = answer-is i ∙ stage-wrote (B .begins .ready) (B .begins .agreeing) i (omega (arith, B .count))
+  -- the sizes as they stand after i steps
+  abbrev y : ℕ → Sizes
+  y i = sizesAt (B .begins .ready) (B .begins .agreeing) i
 
-  at : (i : ℕ) (x : Write) → i < recordsOf z op + 2 → getD (writesOf z j (scanOf op)) i noWrite ≡ x → answerAfter f op i ≡ Wrote (x .record-no) (i + 1)
+  wrote : (i : ℕ) → i < writesBy f z op → answerAfter f op i ≡ Wrote (getD (writesOf (y i) j (scanOf op)) i noWrite .record-no) (i + 1)
+  wrote i h = answer-is i ∙ stage-wrote (B .begins .ready) (B .begins .agreeing) i (omega (arith, B .total))
+
+  at : (i : ℕ) (x : Write) → i < writesBy f z op → getD (writesOf (y i) j (scanOf op)) i noWrite ≡ x → answerAfter f op i ≡ Wrote (x .record-no) (i + 1)
   at i x h e = wrote i h ∙ ap (λ (y : Write). Wrote (y .record-no) (i + 1)) e
 
-  confirms : (i : ℕ) → recordsOf z op + 2 ≤ i → answerAfter f op i ≡ confirmed op (recordsOf z op + 2)
+  confirms : (i : ℕ) → writesBy f z op ≤ i → answerAfter f op i ≡ confirmed op (writesBy f z op)
   confirms i h =
-      answer-is i ∙ stage-confirms (B .begins .ready) (B .begins .agreeing) i (omega (arith, B .count)) ∙ B .confirms (countOf z j + 2)
-      ∙ ap (λ (k : ℕ). confirmed op (k + 2)) (B .count)
+      answer-is i ∙ stage-confirms (B .begins .ready) (B .begins .agreeing) i (omega (arith, B .total)) ∙ B .confirms (totalOf z j) ∙ ap (confirmed op) (B .total)
 
   answers : Answers f z op
   answers =
       let k = B .count in
       let e : recordsOf z op + 1 + 1 ≡ recordsOf z op + 2 = omega arith in
       record {
-        rows = λ i h. at i _ (omega arith) (writes-row z j (scanOf op) i (omega (arith, B .count)));
-        boot = at (recordsOf z op) _ (omega arith) (writes-boot z j (scanOf op) (recordsOf z op) (omega arith));
+        rows = λ i h. at i _ (omega arith) (writes-row (y i) j (scanOf op) i (omega (arith, B .count)));
+        boot = at (recordsOf z op) _ (omega arith) (writes-boot (y (recordsOf z op)) j (scanOf op) (recordsOf z op) (omega arith));
         entry =
-            at (recordsOf z op + 1) _ (omega arith) (writes-entry z j (scanOf op) (recordsOf z op + 1) (omega arith))
+            at (recordsOf z op + 1) _ (omega arith) (writes-entry (y (recordsOf z op + 1)) j (scanOf op) (recordsOf z op + 1) (omega arith))
             ∙ ap (Wrote (recordOf z (slotOf f op))) e;
-        confirms = λ more. confirms (recordsOf z op + 2 + more) (omega arith);
+        confirms = λ more. confirms (writesBy f z op + more) (omega arith);
       }
 
-  not-yet : (i : ℕ) → isConfirmed (answerAfter f op i) ≡ true → recordsOf z op + 2 ≤ i
+  -- what is confirmed has no write left
+  pub not-yet : (i : ℕ) → isConfirmed (answerAfter f op i) ≡ true → writesBy f z op ≤ i
   not-yet i d =
-      ⊎-elim (λ (h : i < recordsOf z op + 2). absurd (true≢false d (ap isConfirmed (wrote i h)))) (λ (h : recordsOf z op + 2 ≤ i). h)
-      (lt-or-ge i (recordsOf z op + 2))
+      ⊎-elim (λ (h : i < writesBy f z op). absurd (true≢false d (ap isConfirmed (wrote i h)))) (λ (h : writesBy f z op ≤ i). h)
+      (lt-or-ge i (writesBy f z op))
 
 pub confirms-each : Confirms
 confirms-each f z o op w t = answers f z o op w t
@@ -125,4 +129,4 @@ pub confirmed-reached : Confirmed
 unfolding reached
 confirmed-reached f z o op w t i d =
     subst (λ (y : Sizes). also (takes f op) (leb (recordsOf y op + 2) i) ≡ true) (sym (open-reads f o))
-    (true-also (takes f op) (leb (recordsOf z op + 2) i) t (le-leb (recordsOf z op + 2) i (not-yet f z o op w t i d)))
+    (true-also (takes f op) (leb (recordsOf z op + 2) i) t (le-leb (recordsOf z op + 2) i (omega (arith, not-yet f z o op w t i d))))

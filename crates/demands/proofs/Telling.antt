@@ -19,15 +19,15 @@ use Rattle.paper.specs.declared.job.Job.{Job}
 use Rattle.paper.specs.declared.job.Step.the-variants as step
 use Rattle.paper.specs.Sizes.{sizesOf, bootBytes, startOf, homeOf}
 use Rattle.paper.specs.Index.{runOf, empty, slotsOf, openOf}
-use Rattle.paper.specs.Store.{recordsFor, countOf, paddedOf, sizesAfter, entryAfter, writesOf}
+use Rattle.paper.specs.Store.{recordsFor, countOf, paddedOf, sizesAfter, entryAfter, totalOf}
 use Rattle.paper.specs.Step.{agrees, hasLeft, writeAt, stands, confirmOf, stepFile, stepAnswer}
 use Rattle.paper.proofs.Opening.{open-sound, open-reads, slots-holds, holds-slots, full-holds}
 use Rattle.paper.proofs.Sizing.{less, times, home-is, home-in}
 use Rattle.paper.proofs.Encoding.{length-boot}
 use Rattle.paper.proofs.Free.{room-in}
 use Rattle.paper.proofs.Records.{entry-length}
-use Rattle.paper.proofs.Writes.{length-writes, row-saves}
-use Rattle.paper.proofs.Agreement.{agreed, file-refused, step-file, step-data, step-boot, step-entry, step-past, job-moved}
+use Rattle.paper.proofs.Writes.{phases, row-saves}
+use Rattle.paper.proofs.Agreement.{agreed, file-refused, step-file, step-data, step-boot, step-entry, step-past, job-head}
 use Rattle.demands.specs.Reads.{entryByte}
 use Rattle.demands.specs.Said.{ListExactly, Next, WroteNext, Outside, StepKeeps}
 
@@ -60,26 +60,25 @@ confirm-never f scan j (Opens z) r count e = go (stands f scan j z) (j .saves) e
     go true false e = let z : _≡_ {A = ℕ} 0 1 = cc in omega arith
     go false s e = let z : _≡_ {A = ℕ} 0 1 = cc in omega arith
 
-next : (f scan : List ℕ) (j : Job) (r count : ℕ) (a left : Bool) → agrees f scan j ≡ a → hasLeft (sizesOf f) scan j ≡ left
+next : (f scan : List ℕ) (j : Job) (r count : ℕ) (a left : Bool) → agrees f scan j ≡ a → hasLeft (sizesOf f) j ≡ left
     → cond a (cond left (step.Wrote (writeAt (sizesOf f) scan j .record-no) (j .written + 1)) (confirmOf f scan j (openOf f))) (step.Refused Disagrees)
     ≡ step.Wrote r count
     → Next f scan j r count
 next f scan j r count false left p q e = let z : _≡_ {A = ℕ} 0 1 = cc in absurd (omega arith)
 next f scan j r count true false p q e = absurd (confirm-never f scan j (openOf f) r count e)
 next f scan j r count true true p q e =
-    let h : j .written < countOf (sizesOf f) j + 2 =
-    omega (arith, ltb-true (j .written) (length (writesOf (sizesOf f) j scan)) q, length-writes (sizesOf f) j scan) in
+    let h : j .written < totalOf (sizesOf f) j = ltb-true (j .written) (totalOf (sizesOf f) j) q in
     let c : count ≡ j .written + 1 = cc in
     record {
       record-is = cc;
       counts = c;
       file = step-file f scan j (sizesOf f) p refl;
-      job = ap (λ (k : Job). k .written) (job-moved f scan j (sizesOf f) p refl h) ∙ sym c;
+      job = ap (λ (k : Job). k .written) (job-head f scan j (sizesOf f) p refl h) ∙ sym c;
     }
 
 pub wrote-next : WroteNext
 unfolding stepAnswer
-wrote-next f scan j r count e = next f scan j r count (agrees f scan j) (hasLeft (sizesOf f) scan j) refl refl e
+wrote-next f scan j r count e = next f scan j r count (agrees f scan j) (hasLeft (sizesOf f) j) refl refl e
 
 -- ---- the bytes that a step keeps
 
@@ -134,14 +133,8 @@ module _ (f scan : List ℕ) (j : Job) (k54 : length (j .about) ≡ 54) (b : ℕ
   keeps : (a : Bool) → agrees f scan j ≡ a → Keeps
   keeps false e = keeps-file (file-refused f scan j e)
   keeps true e =
-      ⊎-elim (λ (h : j .written < countOf z j). keeps-row e h)
-      (λ (h : countOf z j ≤ j .written).
-      ⊎-elim (λ (k : j .written < countOf z j + 1). keeps-boot e (omega arith))
-      (λ (k : countOf z j + 1 ≤ j .written).
-      ⊎-elim (λ (m : j .written < countOf z j + 2). keeps-entry e (omega arith)) (λ (m : countOf z j + 2 ≤ j .written). keeps-file (step-past f scan j z e refl m))
-      (lt-or-ge (j .written) (countOf z j + 2)))
-      (lt-or-ge (j .written) (countOf z j + 1)))
-      (lt-or-ge (j .written) (countOf z j))
+      ⊎-elim (λ (h : j .written < totalOf z j). phases Keeps z j (j .written) h (keeps-row e) (keeps-boot e) (keeps-entry e))
+      (λ (h : totalOf z j ≤ j .written). keeps-file (step-past f scan j z e refl h)) (lt-or-ge (j .written) (totalOf z j))
 
 pub step-keeps : StepKeeps
 step-keeps f scan j k54 b o = keeps f scan j k54 b o (agrees f scan j) refl

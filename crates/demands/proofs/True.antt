@@ -23,7 +23,7 @@ use Rattle.paper.proofs.Confirming.{ended, saved-shown, saved-entry, saved-run,
 use Rattle.paper.proofs.Reading.{read-back}
 use Rattle.paper.proofs.Begins.{save-taken, taken-save, keep-taken, taken-keep}
 use Rattle.paper.proofs.Stages.{jobAt}
-use Rattle.demands.specs.History.{Op, save, keep, clear, Whole, begin, scanOf, recordsOf, takes, State, stateAfter}
+use Rattle.demands.specs.History.{Op, save, keep, clear, Whole, begin, scanOf, writesBy, takes, State, stateAfter}
 use Rattle.demands.specs.Survival.{confirmed}
 use Rattle.demands.specs.Truth.{OpensExactly, Shows, SavedShows, ClearedEmpty, ReadsBack, SavedReads, aboutOf, Saves, RunReads}
 use Rattle.demands.proofs.Start.{starts, accepts, steps-are}
@@ -118,13 +118,13 @@ saves-step (clear slot) s c = absurd s
 pub run-reads : RunReads
 run-reads f z o op s w t more =
     let g = given f op s w t in
-    let i : ℕ = recordsOf z op + 2 + more in
+    let i : ℕ = writesBy f z op + more in
     let st : State = stateAfter f op i in
     let j : Job = begin f op .job in
-    let e : st .job ≡ jobAt z j i = ap (λ (x : State). x .job) (steps-are (starts f z o op w t .begins) i) in
+    let e : st .job ≡ jobAt z f (scanOf op) j i = ap (λ (x : State). x .job) (steps-are (starts f z o op w t .begins) i) in
     let a : st .job .about ≡ aboutOf op = ap (λ (k : Job). k .about) e ∙ g .about in
     let back : ReadsBack (st .file) (st .job .slot) (scanOf op) (st .job .about) =
-    saved-reads (st .file) (scanOf op) (st .job) 0 (recordsOf z op + 2) (headlen (scanOf op)) (datalen (scanOf op))
-    (confirms-each f z o op w t .confirms more ∙ saves-step op s (recordsOf z op + 2)) (g .keeps) (ap length a ∙ g .long) in
+    saved-reads (st .file) (scanOf op) (st .job) 0 (writesBy f z op) (headlen (scanOf op)) (datalen (scanOf op))
+    (confirms-each f z o op w t .confirms more ∙ saves-step op s (writesBy f z op)) (g .keeps) (ap length a ∙ g .long) in
     subst (λ (x : ℕ). ReadsBack (st .file) x (scanOf op) (aboutOf op)) (ap (λ (k : Job). k .slot) e)
     (subst (ReadsBack (st .file) (st .job .slot) (scanOf op)) a back)

@@ -24,9 +24,8 @@ use Rattle.paper.specs.Index.{changeChecks, openOf}
 use Rattle.paper.specs.Entry.{noEntry}
 use Rattle.paper.specs.Scan.{partOf}
 use Rattle.paper.specs.Look.{listOf, listChecks, listedOf, listedOut, noSlot, heldChecks, slotChecks, foundOf}
-use Rattle.paper.specs.Store.{blankSizes, blankChecks, blankOf, blankFile, refused, accepted, noJob, saveJob, clearJob, keepSlot, scanChecks, saveOf, keepOf, clearOf, countOf, writesOf}
+use Rattle.paper.specs.Store.{blankSizes, blankChecks, blankOf, blankFile, refused, accepted, noJob, saveJob, clearJob, keepSlot, scanChecks, saveOf, keepOf, clearOf, totalOf}
 use Rattle.paper.specs.Step.{agrees, hasLeft, writeAt, confirmOf, stepFile, stepJob, stepAnswer}
-use Rattle.paper.proofs.Writes.{length-writes}
 use Rattle.paper.proofs.Agreement.{disagreeing, file-refused, job-refused, answer-refused, step-past, job-past}
 use Rattle.paper.specs.Convert.{convertChecks, convertOf, convertedOut}
 use Rattle.demands.specs.Untouched.{ZeroJob, ZeroEntry, Untouched}
@@ -86,14 +85,13 @@ zero-entry =
 begun-none : (cs : List (Check Refusal)) (j : Job) (r : Refusal) → judge refused cs (accepted j) .answer ≡ taken.Refused r → ZeroJob (judge refused cs (accepted j) .job)
 begun-none cs j r e = subst (λ (b : Begun). ZeroJob (b .job)) (sym (judge-fires refused cs (accepted j) r (begun-fires cs j r e))) zero-job
 
-step-kept : (f scan : List ℕ) (j : Job) (r : Refusal) (a left : Bool) → agrees f scan j ≡ a → hasLeft (sizesOf f) scan j ≡ left
+step-kept : (f scan : List ℕ) (j : Job) (r : Refusal) (a left : Bool) → agrees f scan j ≡ a → hasLeft (sizesOf f) j ≡ left
     → cond a (cond left (step.Wrote (writeAt (sizesOf f) scan j .record-no) (j .written + 1)) (confirmOf f scan j (openOf f))) (step.Refused Disagrees) ≡ step.Refused r
     → (stepFile f scan j ≡ f) × (stepJob f scan j ≡ j)
 step-kept f scan j r false left p q e = (file-refused f scan j p, job-refused f scan j p)
 step-kept f scan j r true true p q e = let z : _≡_ {A = ℕ} 0 1 = cc in absurd (omega arith)
 step-kept f scan j r true false p q e =
-    let h : countOf (sizesOf f) j + 2 ≤ j .written =
-    omega (arith, ltb-false (j .written) (length (writesOf (sizesOf f) j scan)) q, length-writes (sizesOf f) j scan) in
+    let h : totalOf (sizesOf f) j ≤ j .written = ltb-false (j .written) (totalOf (sizesOf f) j) q in
     (step-past f scan j (sizesOf f) p refl h, job-past f scan j (sizesOf f) p refl h)
 
 numbered : (r : Refusal) → (1 ≤ numberOf r) × (numberOf r ≤ 19)
@@ -128,7 +126,7 @@ untouched =
       convert = λ v f out r e.
           judge-fires (λ (r : Refusal). out) (convertChecks v f out) _ r
           (taken-fires taken.Refused (λ x. x) taken.Accepted (convertChecks v f out) (λ q. refl) refl r e);
-      step-job = λ f scan j r e. step-kept f scan j r (agrees f scan j) (hasLeft (sizesOf f) scan j) refl refl e;
+      step-job = λ f scan j r e. step-kept f scan j r (agrees f scan j) (hasLeft (sizesOf f) j) refl refl e;
       save-scan = λ f slot scan about r e.
           begun-none (changeChecks f ++ (noSlot (sizesOf f) slot ∷ scanChecks f scan)) (saveJob f slot scan about) r e;
       keep-scan = λ f scan about r e.

@@ -14,7 +14,7 @@ use Rattle.paper.specs.Sizes.{sizesOf, versionOf, capacityOf, homeOf, roomOf, b
 use Rattle.paper.specs.Index.{runOf, Full, shownOf, Lies}
 use Rattle.paper.specs.Scan.{Rule}
 use Rattle.paper.specs.Look.{listOf, InIndex}
-use Rattle.paper.specs.Store.{blankSizes, recordsFor, countOf, Blankable}
+use Rattle.paper.specs.Store.{blankSizes, recordsFor, totalOf, Blankable}
 use Rattle.paper.specs.Step.{Agreeing, Standing}
 
 -- ---- rows
@@ -148,7 +148,7 @@ KeepRow f scan = ChangeRow f (asks (Vacant f) NoEmptySlot (ScanRow f scan))
 abbrev pub StepRow : List ℕ → List ℕ → Job → Row
 StepRow f scan j =
     asks (Agreeing f scan j (sizesOf f)) Disagrees
-    (only-if (j .written ≡ countOf (sizesOf f) j + 2) (OpenRow f (asks (Standing f scan j (sizesOf f)) Differs end)))
+    (only-if (j .written ≡ totalOf (sizesOf f) j) (OpenRow f (asks (Standing f scan j (sizesOf f)) Differs end)))
 
 -- 02, 2026-03: "open's own, then 17 for a second buffer under N x L bytes, then 19 where a file is already in the wanted form, is of type 1, has another magic, or
 -- has D, a first or a last above 32,767 or a counter above 65,535 when going old"

@@ -50,6 +50,10 @@ recordsOf z (save slot scan about) = recordsFor z (length scan)
 recordsOf z (keep scan about) = recordsFor z (length scan)
 recordsOf z (clear slot) = 0
 
+-- how many records it writes in all, begun on f: its data records, record 1 and the index record
+abbrev pub writesBy : List ℕ → Sizes → Op → ℕ
+writesBy f z op = recordsOf z op + 2
+
 -- the slot that it changes
 abbrev pub slotOf : List ℕ → Op → ℕ
 slotOf f op = begin f op .job .slot

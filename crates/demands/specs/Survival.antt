@@ -13,7 +13,7 @@ use Rattle.paper.specs.Index.{openOf}
 use Rattle.paper.specs.Scan.{partOf}
 use Rattle.paper.specs.Look.{listOf, foundOf, showOf, readOf}
 use Rattle.paper.specs.Step.{isConfirmed}
-use Rattle.demands.specs.History.{Op, save, keep, clear, Whole, begin, recordsOf, slotOf, takes, answerAfter, stepped, reached, heldAt, Holding, Done, Wholes, after, holds, jobs, raised, Spares}
+use Rattle.demands.specs.History.{Op, save, keep, clear, Whole, begin, recordsOf, writesBy, slotOf, takes, answerAfter, stepped, reached, heldAt, Holding, Done, Wholes, after, holds, jobs, raised, Spares}
 
 -- some bytes
 abbrev pub some : List ℕ → Bool
@@ -67,7 +67,7 @@ pub record Answers (f : List ℕ) (z : Sizes) (op : Op) : Type 0 where
   pub rows : (i : ℕ) → i < recordsOf z op → answerAfter f op i ≡ Wrote (begin f op .job .first + i) (i + 1)
   pub boot : answerAfter f op (recordsOf z op) ≡ Wrote 1 (recordsOf z op + 1)
   pub entry : answerAfter f op (recordsOf z op + 1) ≡ Wrote (recordOf z (slotOf f op)) (recordsOf z op + 2)
-  pub confirms : (more : ℕ) → answerAfter f op (recordsOf z op + 2 + more) ≡ confirmed op (recordsOf z op + 2)
+  pub confirms : (more : ℕ) → answerAfter f op (writesBy f z op + more) ≡ confirmed op (writesBy f z op)
 
 abbrev pub Confirms : Type 0
 Confirms = (f : List ℕ) (z : Sizes) → openOf f ≡ Opens z → (op : Op) → Whole op → takes f op ≡ true → Answers f z op

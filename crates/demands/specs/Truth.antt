@@ -22,7 +22,7 @@ use Rattle.paper.specs.Store.{blankOf, recordsFor, runFrom, saveOf, keepOf, cle
 use Rattle.paper.specs.Step.{stepAnswer}
 use Rattle.paper.specs.Convert.{convertOf}
 use Rattle.demands.specs.Causes.{Row, end, Given, Met, OpenRow, SlotRow, RuleRow, ReadRow, ListRow, ClearRow, SaveRow, KeepRow, StepRow, ConvertRow, BlankRow}
-use Rattle.demands.specs.History.{Op, save, keep, clear, Whole, scanOf, recordsOf, slotOf, takes, stateAfter}
+use Rattle.demands.specs.History.{Op, save, keep, clear, Whole, scanOf, writesBy, slotOf, takes, stateAfter}
 
 -- "A file opens exactly when" the facts of `Sound` hold: 01's ranges, its entries, and its rule that no two scans share a record.
 abbrev pub OpensExactly : Type 0
@@ -107,4 +107,4 @@ Saves (clear slot) = ⊥
 abbrev pub RunReads : Type 0
 RunReads =
     (f : List ℕ) (z : Sizes) → openOf f ≡ opened.Opens z → (op : Op) → Saves op → Whole op → takes f op ≡ true → (more : ℕ)
-    → ReadsBack (stateAfter f op (recordsOf z op + 2 + more) .file) (slotOf f op) (scanOf op) (aboutOf op)
+    → ReadsBack (stateAfter f op (writesBy f z op + more) .file) (slotOf f op) (scanOf op) (aboutOf op)

@@ -1,17 +1,19 @@
 -- When job and file agree, in plain facts; and what a step comes to in each of its phases.
-use Prim.Native.Nat.{ℕ, _+_, _*_, _≤_, _<_}
+use Prim.Native.Nat.{ℕ, _+_, _-_, _*_, _≤_, _<_}
 use mathlib.Core.Path.{_≡_, refl, sym, _∙_, ap, subst}
 use mathlib.Core.Bool.{Bool, true, false, cond}
 use mathlib.Core.List.{List, []}
 use native.Mathlib.Omega.{arith}
 use borrow.Author.Tests.{lt-ltb, le-ltb, le-leb, eq-eqb, ne-eqb, ltb-true, leb-true, eqb-true}
 use lib.ListN.{length, take, drop}
+use lib.Seq.{take-take}
 use Rattle.lent.specs.Checks.{Fired, clear, fires, fired}
 use Rattle.lent.specs.Lists.{all}
 use Rattle.lent.specs.Write.{write, pad}
 use Rattle.lent.proofs.Lists.{all-true, true-all, true≢false, not-so, asked, answered}
 use Rattle.lent.proofs.Sames.{same-true, true-same}
-use Rattle.lent.proofs.Writes.{write-nothing}
+use Rattle.lent.proofs.Parts.{part-in}
+use Rattle.lent.proofs.Writes.{write-nothing, take-write}
 use Rattle.paper.specs.declared.sizes.Sizes.{Sizes}
 use Rattle.paper.specs.declared.refusal.Refusal.{Refusal}
 use Rattle.paper.specs.declared.refusal.Refusal.the-variants.{Disagrees}
@@ -20,10 +22,13 @@ use Rattle.paper.specs.declared.job.Step.{Step}
 use Rattle.paper.specs.declared.job.Step.the-variants.{Wrote, Refused}
 use Rattle.paper.specs.Sizes.{sizesOf, bootBytes, recordOf, startOf, homeOf, versionOf, changeBoot}
 use Rattle.paper.specs.Index.{openOf, Booted}
-use Rattle.paper.specs.Store.{Write, perform, countOf, paddedOf, sizesAfter, entryAfter, writesOf}
+use Rattle.paper.specs.Store.{Write, perform, countOf, paddedOf, sizesAfter, entryAfter, entryWrite, totalOf}
 use Rattle.paper.specs.Step.{isClear, agreeTests, agrees, writeAt, hasLeft, stepFile, placed, moved, stepJob, standTests, stands, confirmOf, stepAnswer, steppedOf, Agreeing, Standing}
 use Rattle.paper.proofs.Opening.{change-booted, booted-change}
-use Rattle.paper.proofs.Writes.{length-writes, writes-row, writes-boot, writes-entry, writes-past, row-saves, row-is}
+use Rattle.paper.proofs.Sizing.{times, home-in}
+use Rattle.paper.proofs.Encoding.{length-boot}
+use Rattle.paper.proofs.Free.{room-in}
+use Rattle.paper.proofs.Writes.{phases, writes-row, writes-boot, writes-entry, writes-past, row-saves, row-is}
 
 -- refusals 1 to 5, as a fact and as a test
 clear-booted : (f : List ℕ) → isClear (fired (changeBoot f)) ≡ true → Booted f (sizesOf f) × (versionOf f ≡ 1)
@@ -57,7 +62,7 @@ module _ (f scan : List ℕ) (j : Job) where
         high = leb-true _ _ (u .1 .1 .1 .0);
         past = λ q. ltb-true _ _ (asked _ _ (v .0) q);
         within = λ q. leb-true _ _ (asked _ _ (v .1 .0) q);
-        left = omega (arith, leb-true (j .written) (length (writesOf z j scan)) (v .1 .1 .0), length-writes z j scan);
+        left = leb-true _ _ (v .1 .1 .0);
       }
 
   pub agreeing : (z : Sizes) → Agreeing f scan j z → agrees f scan j ≡ true
@@ -81,7 +86,7 @@ module _ (f scan : List ℕ) (j : Job) where
                     le-leb _ _ (a .high),
                     (
                       answered _ _ (λ q. lt-ltb _ _ (a .past q)),
-                      (answered _ _ (λ q. le-leb _ _ (a .within q)), (le-leb (j .written) (length (writesOf z j scan)) (omega (arith, a .left, length-writes z j scan)), tt)),
+                      (answered _ _ (λ q. le-leb _ _ (a .within q)), (le-leb _ _ (a .left), tt)),
                     ),
                   ),
                 ),
@@ -111,6 +116,10 @@ module _ (f scan : List ℕ) (j : Job) (no : agrees f scan j ≡ false) where
 
 -- ---- a step where job and file agree: the file
 
+-- a write past the bootstrap leaves it
+head-kept : (f : List ℕ) (at : ℕ) (bytes : List ℕ) → 32 ≤ at → at ≤ length f → take 32 (write f at bytes) ≡ take 32 f
+head-kept f at bytes h l = sym (take-take 32 at (write f at bytes) h) ∙ ap (take 32) (take-write f at bytes l) ∙ take-take 32 at f h
+
 module _ (f scan : List ℕ) (j : Job) (z : Sizes) (agree : agrees f scan j ≡ true) (reads : sizesOf f ≡ z) where
   pub step-file : stepFile f scan j ≡ perform f (writeAt z scan j)
   unfolding stepFile
@@ -135,42 +144,74 @@ module _ (f scan : List ℕ) (j : Job) (z : Sizes) (agree : agrees f scan j ≡ 
   pub step-entry : j .written ≡ countOf z j + 1 → stepFile f scan j ≡ write f (homeOf z (j .slot)) (entryAfter z j)
   step-entry h = step-file ∙ ap (perform f) (writes-entry z j scan (j .written) h)
 
-  pub step-past : countOf z j + 2 ≤ j .written → stepFile f scan j ≡ f
+  pub step-past : totalOf z j ≤ j .written → stepFile f scan j ≡ f
   step-past h = step-file ∙ ap (perform f) (writes-past z j scan (j .written) h) ∙ write-nothing f 0
 
   -- ---- the job
 
-  left-is : j .written < countOf z j + 2 → hasLeft z scan j ≡ true
-  left-is h = lt-ltb (j .written) (length (writesOf z j scan)) (omega (arith, length-writes z j scan))
+  left-is : j .written < totalOf z j → hasLeft z j ≡ true
+  left-is h = lt-ltb (j .written) (totalOf z j) h
 
-  none-left : countOf z j + 2 ≤ j .written → hasLeft z scan j ≡ false
-  none-left h = le-ltb (j .written) (length (writesOf z j scan)) (omega (arith, length-writes z j scan))
+  none-left : totalOf z j ≤ j .written → hasLeft z j ≡ false
+  none-left h = le-ltb (j .written) (totalOf z j) h
 
-  step-job : stepJob f scan j ≡ cond (hasLeft z scan j) (moved z j) j
+  step-job : stepJob f scan j ≡ cond (hasLeft z j) (moved (writeAt z scan j) j) j
   unfolding stepJob
-  step-job = subst (λ (y : Sizes). stepJob f scan j ≡ cond (hasLeft y scan j) (moved y j) j) reads (rw agree)
+  step-job = subst (λ (y : Sizes). stepJob f scan j ≡ cond (hasLeft y j) (moved (writeAt y scan j) j) j) reads (rw agree)
 
-  pub job-moved : j .written < countOf z j + 2 → stepJob f scan j ≡ moved z j
-  job-moved h = step-job ∙ rw (left-is h)
-
-  pub job-other : j .written < countOf z j + 2 → (j .written ≡ countOf z j → ⊥) → stepJob f scan j ≡ placed j (j .written + 1) (j .boot)
-  job-other h n = job-moved h ∙ rw (ne-eqb (j .written) (countOf z j) n)
-
-  pub job-boot : j .written ≡ countOf z j → stepJob f scan j ≡ placed j (j .written + 1) (bootBytes (sizesAfter z j))
-  job-boot h = job-moved (omega arith) ∙ rw (eq-eqb (j .written) (countOf z j) h)
-
-  pub job-past : countOf z j + 2 ≤ j .written → stepJob f scan j ≡ j
+  pub job-past : totalOf z j ≤ j .written → stepJob f scan j ≡ j
   job-past h = step-job ∙ rw (none-left h)
+
+  agree-at : Agreeing f scan j z
+  agree-at = subst (Agreeing f scan j) reads (agreed f scan j agree)
+
+  -- what is then expected are the file's first 32 bytes: record 1's write is these, and every other leaves them
+  abbrev Heads : Write → Type 0
+  Heads w = moved w j ≡ placed j (j .written + 1) (take 32 (perform f w))
+
+  head-boot : (y : Sizes) → Heads (record { at = 0; bytes = bootBytes y; record-no = 1 })
+  head-boot y =
+      let n : 0 + length (bootBytes y) - 0 ≡ 32 = omega (arith, length-boot y) in
+      ap (placed j (j .written + 1)) (sym (ap (λ (k : ℕ). take k (write f 0 (bootBytes y))) (sym n) ∙ part-in f 0 (bootBytes y) (omega arith)))
+
+  head-other : (w : Write) → (w .record-no ≡ 1 → ⊥) → 32 ≤ w .at → w .at ≤ length f → Heads w
+  head-other w n a l =
+      ap (λ (t : Bool). placed j (j .written + 1) (cond t (w .bytes) (j .boot))) (ne-eqb (w .record-no) 1 n)
+      ∙ ap (placed j (j .written + 1)) (sym (head-kept f (w .at) (w .bytes) a l ∙ agree-at .begun))
+
+  head-row : j .written < countOf z j → Heads (writeAt z scan j)
+  head-row h =
+      let r : ℕ = j .first + j .written in
+      let s : j .saves ≡ true = row-saves z j (omega arith) in
+      let q = agree-at .booted .ranged .shape in
+      let p = agree-at .past s in
+      subst Heads (sym (writes-row z j scan (j .written) h))
+      (head-other (record { at = startOf z r; bytes = take (z .l) (drop (j .written * z .l) (paddedOf z j scan)); record-no = r }) (λ e. omega arith)
+      (omega (arith, times 1 (r - 1) (z .l) (omega arith)))
+      (omega (arith, room-in z (length f) (r - 1) (omega (arith, agree-at .within s)))))
+
+  head-entry : j .written ≡ countOf z j + 1 → Heads (writeAt z scan j)
+  head-entry h =
+      let q = agree-at .booted .ranged .shape in
+      subst Heads (sym (writes-entry z j scan (j .written) h))
+      (head-other (entryWrite z j) (λ e. omega arith) (omega arith) (omega (arith, home-in (agree-at .booted) (j .slot) (agree-at .low) (agree-at .high))))
+
+  pub job-head : j .written < totalOf z j → stepJob f scan j ≡ placed j (j .written + 1) (take 32 (stepFile f scan j))
+  job-head h =
+      step-job ∙ rw (left-is h)
+      (phases (Heads (writeAt z scan j)) z j (j .written) h head-row
+      (λ e. subst Heads (sym (writes-boot z j scan (j .written) e)) (head-boot (sizesAfter z j))) head-entry
+      ∙ ap (λ (g : List ℕ). placed j (j .written + 1) (take 32 g)) (sym step-file))
 
   -- ---- the answer
 
-  step-answer : stepAnswer f scan j ≡ cond (hasLeft z scan j) (Wrote (writeAt z scan j .record-no) (j .written + 1)) (confirmOf f scan j (openOf f))
+  step-answer : stepAnswer f scan j ≡ cond (hasLeft z j) (Wrote (writeAt z scan j .record-no) (j .written + 1)) (confirmOf f scan j (openOf f))
   unfolding stepAnswer
   step-answer =
-      subst (λ (y : Sizes). stepAnswer f scan j ≡ cond (hasLeft y scan j) (Wrote (writeAt y scan j .record-no) (j .written + 1)) (confirmOf f scan j (openOf f)))
+      subst (λ (y : Sizes). stepAnswer f scan j ≡ cond (hasLeft y j) (Wrote (writeAt y scan j .record-no) (j .written + 1)) (confirmOf f scan j (openOf f)))
       reads (rw agree)
 
-  pub answer-wrote : j .written < countOf z j + 2 → stepAnswer f scan j ≡ Wrote (writeAt z scan j .record-no) (j .written + 1)
+  pub answer-wrote : j .written < totalOf z j → stepAnswer f scan j ≡ Wrote (writeAt z scan j .record-no) (j .written + 1)
   answer-wrote h = step-answer ∙ rw (left-is h)
 
   pub answer-row : j .written < countOf z j → stepAnswer f scan j ≡ Wrote (j .first + j .written) (j .written + 1)
@@ -182,7 +223,7 @@ module _ (f scan : List ℕ) (j : Job) (z : Sizes) (agree : agrees f scan j ≡ 
   pub answer-entry : j .written ≡ countOf z j + 1 → stepAnswer f scan j ≡ Wrote (recordOf z (j .slot)) (j .written + 1)
   answer-entry h = answer-wrote (omega arith) ∙ ap (λ (w : Write). Wrote (w .record-no) (j .written + 1)) (writes-entry z j scan (j .written) h)
 
-  pub answer-past : countOf z j + 2 ≤ j .written → stepAnswer f scan j ≡ confirmOf f scan j (openOf f)
+  pub answer-past : totalOf z j ≤ j .written → stepAnswer f scan j ≡ confirmOf f scan j (openOf f)
   answer-past h = step-answer ∙ rw (none-left h)
 
 -- ---- confirming

@@ -23,17 +23,16 @@ use Rattle.paper.specs.declared.job.Step.the-variants.{Wrote, Saved, Cle
 use Rattle.paper.specs.Sizes.{sizesOf, startOf}
 use Rattle.paper.specs.Index.{runOf, shownOf, entryAt, openOf}
 use Rattle.paper.specs.Entry.{entryBytes}
-use Rattle.paper.specs.Store.{recordsFor, runFrom, countOf, writesOf}
+use Rattle.paper.specs.Store.{recordsFor, runFrom, countOf, totalOf}
 use Rattle.paper.specs.Step.{agrees, hasLeft, writeAt, stands, confirmed, isConfirmed, confirmOf, stepAnswer, Agreeing, Standing}
 use Rattle.paper.proofs.Opening.{open-reads}
-use Rattle.paper.proofs.Writes.{length-writes}
 use Rattle.paper.proofs.Encoding.{statedBy, entry-run, entry-states, zeros-state}
 use Rattle.paper.proofs.Agreement.{agreed, stood}
 
 -- job and file agree, no write is left, the file opens, and it holds what the job and the scan give
 pub record Confirms (f scan : List ℕ) (j : Job) (z : Sizes) : Type 0 where
   pub agreeing : Agreeing f scan j z
-  pub done : j .written ≡ countOf z j + 2
+  pub done : j .written ≡ totalOf z j
   pub opens : openOf f ≡ Opens z
   pub standing : Standing f scan j z
 
@@ -64,20 +63,19 @@ module _ (f scan : List ℕ) (j : Job) where
     pub facts : Confirms f scan j z
     pub is : s ≡ confirmed j
 
-  facts : (z : Sizes) → agrees f scan j ≡ true → hasLeft (sizesOf f) scan j ≡ false → openOf f ≡ Opens z → stands f scan j z ≡ true → Confirms f scan j z
+  facts : (z : Sizes) → agrees f scan j ≡ true → hasLeft (sizesOf f) j ≡ false → openOf f ≡ Opens z → stands f scan j z ≡ true → Confirms f scan j z
   facts z p q e t =
       let r : sizesOf f ≡ z = open-reads f e in
       let a : Agreeing f scan j z = subst (Agreeing f scan j) r (agreed f scan j p) in
-      let n : length (writesOf z j scan) ≤ j .written =
-      subst (λ (y : Sizes). length (writesOf y j scan) ≤ j .written) r (ltb-false (j .written) (length (writesOf (sizesOf f) j scan)) q) in
-      record { agreeing = a; done = omega (arith, a .left, length-writes z j scan); opens = e; standing = stood f scan j z t }
+      let n : totalOf z j ≤ j .written = subst (λ (y : Sizes). totalOf y j ≤ j .written) r (ltb-false (j .written) (totalOf (sizesOf f) j) q) in
+      record { agreeing = a; done = omega (arith, a .left); opens = e; standing = stood f scan j z t }
 
   stood-came : (z : Sizes) (b : Bool) (s : Step) → (b ≡ true → Confirms f scan j z) → cond b (confirmed j) (Refused Differs) ≡ s → isConfirmed s ≡ true → Came s
   stood-came z true s k h c = record { z = z; facts = k refl; is = sym h }
   stood-came z false s k h c = absurd (never (Refused Differs) s refl c h)
 
   -- by what the step came to
-  came : (a left : Bool) (o : Opened) (s : Step) → agrees f scan j ≡ a → hasLeft (sizesOf f) scan j ≡ left → openOf f ≡ o
+  came : (a left : Bool) (o : Opened) (s : Step) → agrees f scan j ≡ a → hasLeft (sizesOf f) j ≡ left → openOf f ≡ o
       → cond a (cond left (Wrote (writeAt (sizesOf f) scan j .record-no) (j .written + 1)) (confirmOf f scan j o)) (Refused Disagrees) ≡ s
       → isConfirmed s ≡ true → Came s
   came false left o s p q e h c = absurd (never (Refused Disagrees) s refl c h)
@@ -87,7 +85,7 @@ module _ (f scan : List ℕ) (j : Job) where
 
   pub confirm-came : (s : Step) → stepAnswer f scan j ≡ s → isConfirmed s ≡ true → Came s
   unfolding stepAnswer
-  confirm-came s h c = came (agrees f scan j) (hasLeft (sizesOf f) scan j) (openOf f) s refl refl refl h c
+  confirm-came s h c = came (agrees f scan j) (hasLeft (sizesOf f) j) (openOf f) s refl refl refl h c
 
   -- Saved answers a save, and Cleared a clear
   pub record Ended (saves : Bool) : Type 0 where

@@ -3,12 +3,10 @@ use Prim.Native.Nat.{ℕ, _+_, _-_, _*_, _/_, _%_, _≤_, _<_}
 use mathlib.Core.Path.{_≡_, sym, _∙_, ap, subst}
 use mathlib.Core.Bool.{Bool, true, false, cond}
 use mathlib.Core.List.{List}
-use mathlib.Core.Logic.{⊎-elim}
 use native.Mathlib.Omega.{arith}
 use native.Mathlib.Nat.{mod-lt, mul-mod-left, dvd-of-mod-eq-zero, mod-mod-of-dvd, div-add-mod', lt-of-mul-lt-mul-right, add-mul, one-mul}
 use lib.ListN.{length, drop, getD, length-take}
 use Rattle.lent.specs.Write.{zeros}
-use Rattle.lent.proofs.Lists.{lt-or-ge}
 use Rattle.lent.proofs.Writes.{length-zeros}
 use Rattle.paper.specs.declared.sizes.Sizes.{Sizes}
 use Rattle.paper.specs.declared.job.Job.{Job}
@@ -17,7 +15,7 @@ use Rattle.paper.specs.Store.{Write, runFrom, countOf, paddedOf, entryAf
 use Rattle.paper.specs.Step.{noWrite}
 use Rattle.paper.proofs.Sizing.{times, home-is}
 use Rattle.paper.proofs.Encoding.{length-boot, length-entry}
-use Rattle.paper.proofs.Writes.{length-writes, writes-row, writes-boot, writes-entry}
+use Rattle.paper.proofs.Writes.{length-writes, phases, writes-row, writes-boot, writes-entry}
 
 -- the bytes of w lie in its record
 pub record InRecord (z : Sizes) (w : Write) : Type 0 where
@@ -61,12 +59,7 @@ module _ (z : Sizes) (R : Shaped z) where
   pub writes-in-record : (j : Job) (scan : List ℕ) → length (j .about) ≡ 54 → (i : ℕ) → i < length (writesOf z j scan)
       → InRecord z (getD (writesOf z j scan) i noWrite)
   writes-in-record j scan h i less =
-      ⊎-elim
-      (λ (a : i < countOf z j). subst (InRecord z) (sym (writes-row z j scan i a)) (record { from = omega arith; to = omega (arith, length-take (z .l) (drop (i * z .l) (paddedOf z j scan))) }))
-      (λ (a : countOf z j ≤ i).
-      ⊎-elim
-      (λ (b : i < countOf z j + 1).
-      subst (InRecord z) (sym (writes-boot z j scan i (omega arith))) (record { from = omega arith; to = omega (arith, length-boot (sizesAfter z j)) }))
-      (λ (b : countOf z j + 1 ≤ i). subst (InRecord z) (sym (writes-entry z j scan i (omega (arith, length-writes z j scan)))) (entry-in j h))
-      (lt-or-ge i (countOf z j + 1)))
-      (lt-or-ge i (countOf z j))
+      phases (InRecord z (getD (writesOf z j scan) i noWrite)) z j i (omega (arith, length-writes z j scan))
+      (λ a. subst (InRecord z) (sym (writes-row z j scan i a)) (record { from = omega arith; to = omega (arith, length-take (z .l) (drop (i * z .l) (paddedOf z j scan))) }))
+      (λ b. subst (InRecord z) (sym (writes-boot z j scan i b)) (record { from = omega arith; to = omega (arith, length-boot (sizesAfter z j)) }))
+      (λ b. subst (InRecord z) (sym (writes-entry z j scan i b)) (entry-in j h))

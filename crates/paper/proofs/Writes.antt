@@ -3,16 +3,18 @@ use Prim.Native.Nat.{ℕ, zero, suc, _+_, _-_, _*_, _/_, _≤_, _<_}
 use mathlib.Core.Path.{_≡_, refl, sym, _∙_, ap, subst}
 use mathlib.Core.Bool.{Bool, true, false, cond}
 use mathlib.Core.List.{List, [], _∷_, _++_}
+use mathlib.Core.Logic.{⊎-elim}
 use native.Mathlib.Omega.{arith}
 use native.Mathlib.Nat.{add-zero, add-comm, suc-mul, zero-mul, le-div-iff-mul-le, lt-div-mul-add}
 use lib.ListN.{length, take, drop, getD, length-append, length-take, length-drop, List·getD-append, List·getD-eq-default}
 use lib.Seq.{getD-append-add, getD-take, getD-drop, drop-drop, length-take-le, ext-getD}
 use Rattle.lent.specs.Write.{pad}
+use Rattle.lent.proofs.Lists.{lt-or-ge}
 use Rattle.lent.proofs.Writes.{length-zeros, length-pad, pad-at}
 use Rattle.paper.specs.declared.sizes.Sizes.{Sizes}
 use Rattle.paper.specs.declared.job.Job.{Job}
 use Rattle.paper.specs.Sizes.{startOf}
-use Rattle.paper.specs.Store.{Write, recordsFor, countOf, paddedOf, dataFrom, dataWrites, bootWrite, entryWrite, writesOf}
+use Rattle.paper.specs.Store.{Write, recordsFor, countOf, paddedOf, dataFrom, dataWrites, bootWrite, entryWrite, totalOf, writesOf}
 use Rattle.paper.specs.Step.{noWrite}
 use Rattle.paper.proofs.Sizing.{times}
 
@@ -54,8 +56,8 @@ module _ (z : Sizes) (j : Job) (scan : List ℕ) where
   pub length-rows : length (dataWrites z j scan) ≡ countOf z j
   length-rows = length-data z (j .first) (countOf z j) (paddedOf z j scan)
 
-  -- k data records, record 1 and the entry
-  pub length-writes : length (writesOf z j scan) ≡ countOf z j + 2
+  -- as many as `totalOf` says
+  pub length-writes : length (writesOf z j scan) ≡ totalOf z j
   unfolding writesOf
   length-writes = length-append (dataWrites z j scan) _ ∙ ap (λ (n : ℕ). n + 2) length-rows
 
@@ -76,8 +78,15 @@ module _ (z : Sizes) (j : Job) (scan : List ℕ) where
   unfolding writesOf
   writes-entry i e = rw e (end-at (dataWrites z j scan) _ _ (countOf z j) 1 length-rows)
 
-  pub writes-past : (i : ℕ) → countOf z j + 2 ≤ i → getD (writesOf z j scan) i noWrite ≡ noWrite
+  pub writes-past : (i : ℕ) → totalOf z j ≤ i → getD (writesOf z j scan) i noWrite ≡ noWrite
   writes-past i h = List·getD-eq-default (writesOf z j scan) noWrite (omega (arith, length-writes))
+
+-- the place of a write that is left: a data record's, record 1's or the entry's
+pub phases : (P : Type 0) (z : Sizes) (j : Job) (i : ℕ) → i < totalOf z j
+    → (i < countOf z j → P) → (i ≡ countOf z j → P) → (i ≡ countOf z j + 1 → P) → P
+phases P z j i h row boot entry =
+    ⊎-elim row (λ (a : countOf z j ≤ i). ⊎-elim (λ (b : i < countOf z j + 1). boot (omega arith)) (λ (b : countOf z j + 1 ≤ i). entry (omega arith)) (lt-or-ge i (countOf z j + 1)))
+    (lt-or-ge i (countOf z j))
 
 -- only a save has data records
 pub row-saves : (z : Sizes) (j : Job) → 0 < countOf z j → j .saves ≡ true

@@ -18,9 +18,9 @@ use Rattle.paper.specs.declared.job.Job.{Job}
 use Rattle.paper.specs.declared.job.Step.{Step}
 use Rattle.paper.specs.declared.job.Step.the-variants.{Wrote, Saved, Cleared, Refused}
 use Rattle.paper.specs.declared.job.Stepped.{Stepped}
-use Rattle.paper.specs.Sizes.{sizesOf, bootBytes, capacityOf, startOf, roomOf, changeBoot}
+use Rattle.paper.specs.Sizes.{sizesOf, capacityOf, startOf, roomOf, changeBoot}
 use Rattle.paper.specs.Index.{openOf, entryAt, Booted}
-use Rattle.paper.specs.Store.{Write, perform, countOf, paddedOf, sizesAfter, entryAfter, writesOf}
+use Rattle.paper.specs.Store.{Write, perform, countOf, paddedOf, entryAfter, totalOf, writesOf}
 
 -- no refusal fired
 abbrev pub isClear : Fired Refusal → Bool
@@ -39,7 +39,7 @@ agreeTests f scan j z =
     ∷ leb (j .slot) (capacityOf z)
     ∷ cond (j .saves) (ltb (z .n) (j .first)) true
     ∷ cond (j .saves) (leb (j .first + countOf z j) (roomOf z (length f) + 1)) true
-    ∷ leb (j .written) (length (writesOf z j scan))
+    ∷ leb (j .written) (totalOf z j)
     ∷ []
 
 unfoldable pub agrees : List ℕ → List ℕ → Job → Bool
@@ -54,8 +54,8 @@ abbrev pub writeAt : Sizes → List ℕ → Job → Write
 writeAt z scan j = getD (writesOf z j scan) (j .written) noWrite
 
 -- a write is left
-abbrev pub hasLeft : Sizes → List ℕ → Job → Bool
-hasLeft z scan j = ltb (j .written) (length (writesOf z j scan))
+abbrev pub hasLeft : Sizes → Job → Bool
+hasLeft z j = ltb (j .written) (totalOf z j)
 
 -- "Each step writes at most one record"
 unfoldable pub stepFile : List ℕ → List ℕ → Job → List ℕ
@@ -67,11 +67,11 @@ placed j w b =
     record { saves = j .saves; slot = j .slot; size = j .size; span = j .span; first = j .first; written = w; boot = b; about = j .about }
 
 -- the job one write on; where this write was record 1's, it then expects the bootstrap that it wrote
-abbrev pub moved : Sizes → Job → Job
-moved z j = placed j (j .written + 1) (cond (eqb (j .written) (countOf z j)) (bootBytes (sizesAfter z j)) (j .boot))
+abbrev pub moved : Write → Job → Job
+moved w j = placed j (j .written + 1) (cond (eqb (w .record-no) 1) (w .bytes) (j .boot))
 
 unfoldable pub stepJob : List ℕ → List ℕ → Job → Job
-stepJob f scan j = cond (agrees f scan j) (cond (hasLeft (sizesOf f) scan j) (moved (sizesOf f) j) j) j
+stepJob f scan j = cond (agrees f scan j) (cond (hasLeft (sizesOf f) j) (moved (writeAt (sizesOf f) scan j) j) j) j
 
 -- "compares the entry's M bytes and the k records, padding included, with what the job and the scan give"
 abbrev pub standTests : List ℕ → List ℕ → Job → Sizes → List Bool
@@ -105,7 +105,7 @@ wroteOf z scan j = Wrote (writeAt z scan j .record-no) (j .written + 1)
 
 unfoldable pub stepAnswer : List ℕ → List ℕ → Job → Step
 stepAnswer f scan j =
-    cond (agrees f scan j) (cond (hasLeft (sizesOf f) scan j) (wroteOf (sizesOf f) scan j) (confirmOf f scan j (openOf f))) (Refused Disagrees)
+    cond (agrees f scan j) (cond (hasLeft (sizesOf f) j) (wroteOf (sizesOf f) scan j) (confirmOf f scan j (openOf f))) (Refused Disagrees)
 
 unfoldable pub steppedOf : List ℕ → List ℕ → Job → Stepped
 steppedOf f scan j = record { answer = stepAnswer f scan j; job = stepJob f scan j }
@@ -124,7 +124,7 @@ pub record Agreeing (f scan : List ℕ) (j : Job) (z : Sizes) : Type 0 where
   pub high : j .slot ≤ capacityOf z
   pub past : j .saves ≡ true → z .n < j .first
   pub within : j .saves ≡ true → j .first + countOf z j ≤ roomOf z (length f) + 1
-  pub left : j .written ≤ countOf z j + 2
+  pub left : j .written ≤ totalOf z j
 
 -- what `stands f scan j z ≡ true` says
 pub record Standing (f scan : List ℕ) (j : Job) (z : Sizes) : Type 0 where

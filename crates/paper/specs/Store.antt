@@ -180,6 +180,10 @@ entryAfter z j = cond (j .saves) (entryBytes z (runFrom (j .first) (countOf z j)
 abbrev pub entryWrite : Sizes → Job → Write
 entryWrite z j = record { at = homeOf z (j .slot); bytes = entryAfter z j; record-no = recordOf z (j .slot) }
 
+-- how many writes: from the job and the sizes that no write changes, never from the file as it stands
+abbrev pub totalOf : Sizes → Job → ℕ
+totalOf z j = countOf z j + 2
+
 -- "the k data records .., then record 1 .., then the slot's entry"
 unfoldable pub writesOf : Sizes → Job → List ℕ → List Write
 writesOf z j scan = dataWrites z j scan ++ (bootWrite z j ∷ entryWrite z j ∷ [])

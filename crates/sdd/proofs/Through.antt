@@ -85,7 +85,7 @@ module _ (f scan : List ℕ) (c : CJob) (r : CStepped) (t : Told) where
       let same : (n : ℕ) (b : List ℕ) → changed c (c .saves) n b ≡ changed c (cond (eqb (c .saves) 1) 1 0) n b =
       λ n b. ap (λ (s : ℕ). changed c s n b) (sym (saves-back (c .saves) h)) in
       either-job (λ k. onward c k ≡ jobC k) (agrees f scan (jobOf c)) _ _
-      (either-job (λ k. onward c k ≡ jobC k) (hasLeft (sizesOf f) scan (jobOf c)) _ _ (same _ _) (same _ _)) (same _ _)
+      (either-job (λ k. onward c k ≡ jobC k) (hasLeft (sizesOf f) (jobOf c)) _ _ (same _ _) (same _ _)) (same _ _)
 
   -- the step of the job that the numbers stand for
   pub step-face : (g : List ℕ) (s : Stepped) (j : Job) → c .saves ≤ 1 → j ≡ jobOf c → stepSays (s .answer) ≡ stepSays (stepAnswer f scan j)

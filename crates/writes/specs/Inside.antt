@@ -11,6 +11,7 @@ use Rattle.paper.specs.declared.job.Step.the-variants.{Wrote}
 use Rattle.paper.specs.declared.job.Stepped.{Stepped}
 use Rattle.paper.specs.Sizes.{startOf, homeOf, Ranged, Slotted}
 use Rattle.paper.specs.Store.{countOf}
+use Rattle.paper.specs.Step.{placed}
 
 -- sizes that 32-bit words hold
 pub record Narrow (z : Sizes) : Type 0 where
@@ -50,20 +51,6 @@ pub record Rowed (f : List ℕ) (z : Sizes) (j : Job) : Type 0 where
 abbrev pub frontOf : Sizes → Job → List ℕ
 frontOf z j = words (j .first ∷ (j .first + countOf z j - 1) ∷ []) ++ j .about
 
--- the job with one write more, that then expects the bootstrap `boot`
-abbrev pub movedTo : Job → List ℕ → Job
-movedTo j boot =
-    record {
-      saves = j .saves;
-      slot = j .slot;
-      size = j .size;
-      span = j .span;
-      first = j .first;
-      written = j .written + 1;
-      boot = boot;
-      about = j .about;
-    }
-
--- what a step that wrote record r hands back
+-- what a step that wrote record r hands back: the job with one write more, that then expects the bootstrap `boot`
 abbrev pub wroteOne : ℕ → Job → List ℕ → Stepped
-wroteOne r j boot = record { answer = Wrote r (j .written + 1); job = movedTo j boot }
+wroteOne r j boot = record { answer = Wrote r (j .written + 1); job = placed j (j .written + 1) boot }
