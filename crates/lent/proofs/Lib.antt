@@ -1,5 +1,6 @@
 pub mod Lists
 pub mod Leasts
+pub mod Greatests
 pub mod Checks
 pub mod Writes
 pub mod Parts

@@ -4,4 +4,5 @@ pub mod Number
 pub mod Write
 pub mod Same
 pub mod Least
+pub mod Greatest
 pub mod Checks
