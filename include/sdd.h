@@ -159,7 +159,8 @@ typedef struct {
   uint64_t d;        /* data records */
   uint64_t l;        /* bytes per record, 512 to 4,096 */
   uint64_t m;        /* bytes per index entry, 64 to l, divides l */
-  uint64_t u;        /* entries in use: at least the highest slot with a scan */
+  uint64_t u;        /* entries in use: at least the highest slot with a scan. A job that ran to its end
+                        leaves just that slot, or 0; after a cut, or from elsewhere, it may be higher */
   uint64_t counter;  /* goes up by one at each job; 32 bits, after all ones comes zero; old form: 16 bits */
   uint64_t type;     /* 0 data, 1 individual records; old form: 0 */
   uint64_t capacity; /* slots, at most 4,096 */
@@ -200,7 +201,11 @@ typedef struct {
 
 /* A save, keep or clear under way. It is a value: copy it, keep it, lend it to the next step.
  * A dropped job is one that is stepped no more; nothing needs to be freed. A job made by hand is
- * taken like any other: a step either refuses it with 14 or does what these fields say. */
+ * taken like any other: a step either refuses it with 14 or does what these fields say.
+ *
+ * To begin a job on a file is to drop every other one on it. Two that are stepped by turns are not always
+ * refused: one that is begun between the other's record 1 and its index record takes the same data
+ * records, and a scan is lost; and `lowers` says what was so when its own job was begun. */
 typedef struct {
   uint64_t saves;     /* 1 a save or keep; 0 a clear, handed out with scan_len, first and about 0,
                          of which a step looks at neither first nor about; any other value: a step
@@ -210,6 +215,11 @@ typedef struct {
   uint64_t file_len;  /* bytes of the file: the same number is lent to every step */
   uint64_t first;     /* the first of the scan's new records */
   uint64_t written;   /* records written so far */
+  uint64_t lowers;    /* 1 a clear of the slot that was the highest with a scan when it was begun: it
+                         writes record 1 once more, with a lower U. Every other job is handed out with
+                         0. Of a clear made by hand it decides that write, whatever the slot is; of a
+                         save 0 and 1 are not told apart, and it comes back as it was lent. Any other
+                         value, of either: a step answers 14 */
   uint8_t  boot[32];  /* the file's first 32 bytes as the job was begun on or last wrote them */
   uint8_t  about[54]; /* the entry's bytes 8 to 61 */
 } sdd_job;
@@ -283,15 +293,25 @@ sdd_begun sdd_save(const uint8_t *file, size_t file_len, uint64_t slot, const ui
 sdd_begun sdd_keep(const uint8_t *file, size_t file_len, const uint8_t *scan, size_t scan_len,
                    const uint8_t about[54]);
 
-/* Begins to clear a slot. Nothing is written yet: step the job, with an empty scan.
+/* Begins to clear a slot. Nothing is written yet: step the job, with an empty scan. Where no higher slot has
+ * a scan the job's `lowers` is 1, and it writes one record more.
  * Lent: the file, to look at. Refusals: 1 to 8 (2 on an old file), then 9, then 10. */
 sdd_begun sdd_clear(const uint8_t *file, size_t file_len, uint64_t slot);
 
 /* Does the next step of a job. Each step writes at most one record: the scan's k records (the last
  * padded with zeros), then record 1, then the slot's entry in its index record; of a clear record 1
- * and the index record alone. `record` says which, and `written` how many so far. The step after
- * the last write writes nothing, judges the file and compares what the job should have left there:
- * it alone answers Saved or Cleared. A confirmed job stepped again is judged again.
+ * and the index record alone, and where its `lowers` is 1 record 1 again. `record` says which, and
+ * `written` how many so far. The step after the last write writes nothing, judges the file and compares
+ * what the job should have left there: it alone answers Saved or Cleared. So a save is confirmed at step
+ * k+3, a clear at step 3, and one whose `lowers` is 1 at step 4. A confirmed job stepped again is judged
+ * again.
+ *
+ * The first write of record 1 puts the counter one higher, raises D to the end of a save's records, and
+ * puts U at the highest slot with a scan, the job's own counted. That is the highest slot up to capacity,
+ * also above U, whose entry does not have both first and last 0 in the file lent to this very step. So
+ * every save, keep and clear also LOWERS a U that was too high, as after a cut. The second write of record 1
+ * leaves D and the counter as they are, and puts U at the highest slot with a scan that is left, or at 0.
+ * The confirming step does not ask whether U is the highest slot, nor does open.
  *
  * A step does no input or output: it writes into lent memory, and Saved is said of lent memory. Two
  * things are the caller's, and without them Saved means nothing:
@@ -303,12 +323,13 @@ sdd_begun sdd_clear(const uint8_t *file, size_t file_len, uint64_t slot);
  *
  * If the machine stops between two steps, or the job
  * is dropped, the file still opens, and the slot shows its old scan until the index record is
- * written and the new one from then on.
+ * written and the new one from then on. U may then be too high, until the next job.
  *
  * Lent: the file, in which the one record is written where the step is accepted; the scan the job
  * was begun with (empty for a clear), to look at; the job as the last step handed it back.
- * Refusals: 14 first, and always on a file of the old form, whatever the job says; the confirming step
- * then also open's own, then 15. */
+ * Refusals: 14 first, and always on a file of the old form, whatever the job says; also where `saves` or
+ * `lowers` is neither 0 nor 1, or `written` is above the number of records that the job has to write (k+2 of
+ * a save, 2 or 3 of a clear). The confirming step then also open's own, then 15. */
 sdd_stepped sdd_step(uint8_t *file, size_t file_len, const uint8_t *scan, size_t scan_len,
                      sdd_job job);
 

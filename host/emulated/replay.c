@@ -97,7 +97,7 @@ static void put(const void *field, size_t len) {
 
 static void put_job(const sdd_job *job) {
   PUT(job->saves), PUT(job->slot), PUT(job->scan_len), PUT(job->file_len), PUT(job->first);
-  PUT(job->written), PUT(job->boot), PUT(job->about);
+  PUT(job->written), PUT(job->lowers), PUT(job->boot), PUT(job->about);
 }
 
 static void put_opened(sdd_opened a) {
@@ -138,7 +138,7 @@ static lent file, wanted, scan, about, out, second, second_wanted;
 static sdd_job read_job(void) {
   sdd_job job;
   job.saves = number(), job.slot = number(), job.scan_len = number();
-  job.file_len = number(), job.first = number(), job.written = number();
+  job.file_len = number(), job.first = number(), job.written = number(), job.lowers = number();
   memcpy(job.boot, bytes(32), 32);
   memcpy(job.about, bytes(54), 54);
   return job;

@@ -18,7 +18,7 @@ static uint8_t *file, scan[SCAN], about[54];
 static const size_t LEN = (size_t)ROOM * L;
 static uint32_t out[3 * 4096];
 static uint8_t second[N * L];
-static sdd_job job;
+static sdd_job job, clearing;
 
 /* ---- a file with scans in rising or falling order, and a scan */
 
@@ -72,12 +72,24 @@ static void blank(void) { sdd_blank(file, LEN, N, L, M); }
 static void save(void) { job = sdd_save(file, LEN, 4096, scan, SCAN, about).job; }
 static void keep(void) { sdd_keep(file, LEN, scan, SCAN, about); }
 static void clear(void) { sdd_clear(file, LEN, USED); }
-static void step(void) {
+static sdd_job run(sdd_job steps, size_t scan_len) {
   sdd_stepped stepped;
   do {
-    stepped = sdd_step(file, LEN, scan, SCAN, job);
-    job = stepped.job;
+    stepped = sdd_step(file, LEN, scan, scan_len, steps);
+    steps = stepped.job;
   } while (stepped.why.number == 0 && stepped.done == SDD_WROTE);
+  return steps;
+}
+
+/* A save, and then a clear of its slot made by hand, which lowers U past the gap below it. */
+static void step(void) {
+  const sdd_job none = {0};
+  int i;
+  job = run(job, SCAN);
+  clearing = none;
+  clearing.slot = 4096, clearing.file_len = LEN, clearing.lowers = 1;
+  for (i = 0; i < 32; i++) clearing.boot[i] = job.boot[i];
+  clearing = run(clearing, 0);
 }
 
 static void to_current(void) { sdd_to_current(file, LEN, second, N * L); }
@@ -143,5 +155,5 @@ int main(void) {
              holds ? "" : ": TOO MUCH");
     }
   }
-  return wrong != 0 || job.written != 130;
+  return wrong != 0 || job.written != 130 || clearing.written != 3;
 }

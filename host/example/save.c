@@ -101,6 +101,7 @@ static void run(const window *file, const char *path, sdd_opened z, const uint8_
   uint64_t k = (len + z.l - 1) / z.l;
   sdd_stepped stepped;
   struct stat about;
+  /* the scan's records, record 1 with its U and D, and the slot's index record */
   while (job.written < k + 2) {
     stepped = sdd_step(file->bytes, file->len, scan, len, job);
     accept_or_stop(stepped.why);

@@ -142,11 +142,11 @@ module _ (f : List ℕ) (n l m : ℕ) (e : blankOf f n l m ≡ Accepted) (room :
       record {
         taken = t;
         saved =
-            subst (λ (k : ℕ). answerAfter g (save 1 leastScan about) (k + 2 + 0) ≡ Saved 0 (k + 2)) one
+            subst (λ (k : ℕ). answerAfter g (save 1 leastScan about) (k + 2 + 0 + 0) ≡ Saved 0 (k + 2 + 0)) one
             (confirms-each g z o (save 1 leastScan about) w t .confirms 0);
         reads =
             subst (λ (x : ℕ). ReadsBack (stateAfter g (save 1 leastScan about) 3 .file) x leastScan about) s
-            (subst (λ (k : ℕ). ReadsBack (stateAfter g (save 1 leastScan about) (k + 2 + 0) .file) (slotOf g (save 1 leastScan about)) leastScan about) one
+            (subst (λ (k : ℕ). ReadsBack (stateAfter g (save 1 leastScan about) (k + 2 + 0 + 0) .file) (slotOf g (save 1 leastScan about)) leastScan about) one
             (run-reads g z o (save 1 leastScan about) tt w t 0));
       }
 

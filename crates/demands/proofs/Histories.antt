@@ -18,7 +18,7 @@ use Rattle.paper.specs.Index.{shownOf, entryAt, openOf, Sound}
 use Rattle.paper.specs.Store.{countOf, counterAfter, sizesAfter}
 use Rattle.paper.proofs.Opening.{sound-open, open-sound}
 use Rattle.paper.proofs.Frame.{Kept}
-use Rattle.paper.proofs.Ready.{fileAt, rows-sound, rows-kept, boot-sound, boot-keeps, end-sound, end-stays, end-entry, end-shown, end-others, end-entries}
+use Rattle.paper.proofs.Ready.{fileAt, rows-sound, rows-kept, boot-keeps, end-keeps, end-entry, end-shown, end-others, end-entries, once-booted}
 use Rattle.demands.specs.History.{Op, Whole, scanOf, recordsOf, slotOf, takes, State, stateAfter, Cut, stepsOf, run, reached, renews, Held, heldAt, given, Holding, put, change, Done, Wholes, after, holds, jobs, raised}
 use Rattle.demands.proofs.Start.{Starts, starts, steps-are}
 
@@ -82,29 +82,20 @@ module _ {z : Sizes} {f : List ℕ} {op : Op} {j : Job} (B : Starts z f op j) wh
       let Y = B .begins .ready in
       ⊎-elim
       (λ (h : K < i).
-      ⊎-elim
-      (λ (l : i < K + 2).
-      let e : i ≡ suc K = omega arith in
-      subst (λ (n : ℕ). Outcome z (fileAt f (scanOf op) j n) (now i) (times i)) (sym e)
-      (record {
-        d = sizesAfter z j .d;
-        u = sizesAfter z j .u;
-        c = sizesAfter z j .counter;
+      record {
+        d = sizesAfter f z j .d;
+        u = once-booted Y i h .u;
+        c = counterAfter z;
         counts = once i h;
-        sound = boot-sound Y;
-        shows = λ t a b. held-kept (boot-keeps Y) t a b ∙ early i l _ _;
-      }))
-      (λ (l : K + 2 ≤ i).
-      subst (λ (g : List ℕ). Outcome z g (now i) (times i)) (sym (end-stays Y i l))
-      (record {
-        d = sizesAfter z j .d;
-        u = sizesAfter z j .u;
-        c = sizesAfter z j .counter;
-        counts = once i h;
-        sound = end-sound Y;
-        shows = λ t a b. end-held t a b ∙ late i l _ _;
-      }))
-      (lt-or-ge i (K + 2)))
+        sound = once-booted Y i h .sound;
+        shows = λ t a b.
+            ⊎-elim
+            (λ (l : i < K + 2).
+            let e : i ≡ suc K = omega arith in
+            ap (λ (n : ℕ). heldAt (fileAt f (scanOf op) j n) z t) e ∙ held-kept (boot-keeps Y) t a b ∙ early i l _ _)
+            (λ (l : K + 2 ≤ i). held-kept (end-keeps Y i l) t a b ∙ end-held t a b ∙ late i l _ _)
+            (lt-or-ge i (K + 2));
+      })
       (λ (h : i ≤ K).
       record {
         d = z .d;

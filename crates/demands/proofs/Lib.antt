@@ -1,6 +1,7 @@
 pub mod Start
 pub mod Histories
 pub mod Survived
+pub mod Using
 pub mod Calling
 pub mod Staying
 pub mod Ordered

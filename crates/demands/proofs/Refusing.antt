@@ -253,13 +253,13 @@ module _ (f scan : List ℕ) (j : Job) where
       go false q a = asked-so (omega (arith, ltb-false (j .written) (totalOf (sizesOf f) j) q, a .left)) stand-row
 
   step-told : (a left : Bool) → agrees f scan j ≡ a → hasLeft (sizesOf f) j ≡ left
-      → Told (stepSays (cond a (cond left (wroteOf (sizesOf f) scan j) (confirmOf f scan j (openOf f))) (step.Refused Disagrees))) (StepRow f scan j)
+      → Told (stepSays (cond a (cond left (wroteOf f (sizesOf f) scan j) (confirmOf f scan j (openOf f))) (step.Refused Disagrees))) (StepRow f scan j)
   step-told a true p q =
-      subst (λ (b : Bool). Told (stepSays (cond b (wroteOf (sizesOf f) scan j) (step.Refused Disagrees))) (StepRow f scan j)) p
+      subst (λ (b : Bool). Told (stepSays (cond b (wroteOf f (sizesOf f) scan j) (step.Refused Disagrees))) (StepRow f scan j)) p
       (subst (λ (x : Step). Told (stepSays x) (StepRow f scan j)) (go (agrees f scan j))
-      (told stepSays step.Refused (wroteOf (sizesOf f) scan j) (λ r. refl) refl (agree-row true q)))
+      (told stepSays step.Refused (wroteOf f (sizesOf f) scan j) (λ r. refl) refl (agree-row true q)))
     where
-      go : (b : Bool) → judge step.Refused (check (not b) Disagrees ∷ []) (wroteOf (sizesOf f) scan j) ≡ cond b (wroteOf (sizesOf f) scan j) (step.Refused Disagrees)
+      go : (b : Bool) → judge step.Refused (check (not b) Disagrees ∷ []) (wroteOf f (sizesOf f) scan j) ≡ cond b (wroteOf f (sizesOf f) scan j) (step.Refused Disagrees)
       go true = refl
       go false = refl
   step-told a false p q =

@@ -5,6 +5,8 @@ use mathlib.Core.Bool.{true, cond}
 use mathlib.Core.List.{List, []}
 use native.Mathlib.Omega.{arith}
 use native.Mathlib.Nat.{zero-mul}
+use borrow.Author.Tests.{eqb-true}
+use Rattle.lent.specs.Write.{zeros}
 use Rattle.lent.proofs.Lists.{true≢false}
 use Rattle.lent.proofs.Writes.{pad-none}
 use Rattle.paper.specs.declared.sizes.Sizes.{Sizes}
@@ -16,13 +18,13 @@ use Rattle.paper.specs.declared.job.Begun.{Begun}
 use Rattle.paper.specs.declared.job.Step.the-variants.{Saved, Cleared}
 use Rattle.paper.specs.Sizes.{sizesOf}
 use Rattle.paper.specs.Index.{openOf}
-use Rattle.paper.specs.Store.{saveOf, keepOf, clearOf, countOf, paddedOf, entryAfter, totalOf}
+use Rattle.paper.specs.Store.{highest, saveOf, keepOf, clearOf, countOf, paddedOf, entryAfter, lowersOf, totalOf}
 use Rattle.paper.specs.Step.{stepJob}
 use Rattle.paper.proofs.Opening.{open-reads}
 use Rattle.paper.proofs.Ready.{fileAt, file-start}
 use Rattle.paper.proofs.Stages.{jobAt, job-start, stage-file, stage-job}
 use Rattle.paper.proofs.Begins.{Begins, save-taken, taken-save, keep-taken, taken-keep, clear-is-taken, taken-is-clear, save-begins, keep-begins, clear-begins}
-use Rattle.demands.specs.History.{Op, save, keep, clear, Whole, begin, scanOf, recordsOf, writesBy, isAccepted, takes, next, steps, given}
+use Rattle.demands.specs.History.{Op, save, keep, clear, Whole, begin, scanOf, recordsOf, lowersBy, writesBy, isAccepted, takes, next, steps, given}
 use Rattle.demands.specs.Survival.{confirmed}
 
 -- the job j of an operation: ready, and with what the operation gives
@@ -30,6 +32,8 @@ pub record Starts (z : Sizes) (f : List ℕ) (op : Op) (j : Job) : Type 0 where
   pub begins : Begins z f (scanOf op) j
   pub count : countOf z j ≡ recordsOf z op
   pub total : totalOf z j ≡ writesBy f z op
+  pub lowers : lowersOf j ≡ lowersBy f z op
+  pub top : lowersBy f z op ≡ true → (j .slot ≡ highest f z) × (entryAfter z j ≡ zeros (z .m))
   pub bytes : paddedOf z j (scanOf op) ≡ given f z op .records
   pub entry : entryAfter z j ≡ given f z op .entry
   pub confirms : (c : ℕ) → cond (j .saves) (Saved 0 c) (Cleared 0 c) ≡ confirmed op c
@@ -47,6 +51,8 @@ starts-own f (save slot scan about) w e =
       begins = save-begins f slot scan about w t;
       count = refl;
       total = refl;
+      lowers = refl;
+      top = λ e. absurd (true≢false e refl);
       bytes = refl;
       entry = refl;
       confirms = λ c. refl;
@@ -59,6 +65,8 @@ starts-own f (keep scan about) w e =
       begins = keep-begins f scan about w t;
       count = refl;
       total = refl;
+      lowers = refl;
+      top = λ e. absurd (true≢false e refl);
       bytes = refl;
       entry = refl;
       confirms = λ c. refl;
@@ -71,6 +79,8 @@ starts-own f (clear slot) w e =
       begins = clear-begins f slot t;
       count = refl;
       total = refl;
+      lowers = refl;
+      top = λ e. (eqb-true slot (highest f z) e, refl);
       bytes = pad-none (0 * z .l) [] (omega (arith, zero-mul (z .l)));
       entry = refl;
       confirms = λ c. refl;

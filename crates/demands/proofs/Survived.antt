@@ -23,7 +23,7 @@ use Rattle.paper.specs.Store.{Write, totalOf, writesOf}
 use Rattle.paper.specs.Step.{isConfirmed, noWrite, stepAnswer}
 use Rattle.paper.proofs.Sizing.{less, times}
 use Rattle.paper.proofs.Opening.{facts-empty, facts-full, inside-all, slots-all, lies-end, sound-open, open-reads}
-use Rattle.paper.proofs.Writes.{writes-row, writes-boot, writes-entry}
+use Rattle.paper.proofs.Writes.{total-lowers, writes-row, writes-boot, writes-entry, writes-lower}
 use Rattle.paper.proofs.Ready.{fileAt}
 use Rattle.paper.proofs.Stages.{jobAt, sizesAt, stage-wrote, stage-confirms}
 use Rattle.demands.specs.History.{Op, Whole, begin, scanOf, recordsOf, writesBy, slotOf, takes, State, answerAfter, reached, heldAt, Holding, Held, holds}
@@ -89,14 +89,17 @@ module _ (f : List ℕ) (z : Sizes) (o : openOf f ≡ Opens z) (op : Op) (w : Wh
   answer-is : (i : ℕ) → answerAfter f op i ≡ stepAnswer (fileAt f (scanOf op) j i) (scanOf op) (jobAt z f (scanOf op) j i)
   answer-is i = ap (λ (s : State). stepAnswer (s .file) (scanOf op) (s .job)) (steps-are (B .begins) i)
 
-  -- the sizes as they stand after i steps
+  -- file and sizes as they stand after i steps
+  abbrev F : ℕ → List ℕ
+  F i = fileAt f (scanOf op) j i
+
   abbrev y : ℕ → Sizes
   y i = sizesAt (B .begins .ready) (B .begins .agreeing) i
 
-  wrote : (i : ℕ) → i < writesBy f z op → answerAfter f op i ≡ Wrote (getD (writesOf (y i) j (scanOf op)) i noWrite .record-no) (i + 1)
+  wrote : (i : ℕ) → i < writesBy f z op → answerAfter f op i ≡ Wrote (getD (writesOf (F i) (y i) j (scanOf op)) i noWrite .record-no) (i + 1)
   wrote i h = answer-is i ∙ stage-wrote (B .begins .ready) (B .begins .agreeing) i (omega (arith, B .total))
 
-  at : (i : ℕ) (x : Write) → i < writesBy f z op → getD (writesOf (y i) j (scanOf op)) i noWrite ≡ x → answerAfter f op i ≡ Wrote (x .record-no) (i + 1)
+  at : (i : ℕ) (x : Write) → i < writesBy f z op → getD (writesOf (F i) (y i) j (scanOf op)) i noWrite ≡ x → answerAfter f op i ≡ Wrote (x .record-no) (i + 1)
   at i x h e = wrote i h ∙ ap (λ (y : Write). Wrote (y .record-no) (i + 1)) e
 
   confirms : (i : ℕ) → writesBy f z op ≤ i → answerAfter f op i ≡ confirmed op (writesBy f z op)
@@ -107,12 +110,17 @@ module _ (f : List ℕ) (z : Sizes) (o : openOf f ≡ Opens z) (op : Op) (w : Wh
   answers =
       let k = B .count in
       let e : recordsOf z op + 1 + 1 ≡ recordsOf z op + 2 = omega arith in
+      let m : recordsOf z op + 2 + 1 ≡ recordsOf z op + 3 = omega arith in
       record {
-        rows = λ i h. at i _ (omega arith) (writes-row (y i) j (scanOf op) i (omega (arith, B .count)));
-        boot = at (recordsOf z op) _ (omega arith) (writes-boot (y (recordsOf z op)) j (scanOf op) (recordsOf z op) (omega arith));
+        rows = λ i h. at i _ (omega arith) (writes-row (F i) (y i) j (scanOf op) i (omega (arith, B .count)));
+        boot = at (recordsOf z op) _ (omega arith) (writes-boot (F (recordsOf z op)) (y (recordsOf z op)) j (scanOf op) (recordsOf z op) (omega arith));
         entry =
-            at (recordsOf z op + 1) _ (omega arith) (writes-entry (y (recordsOf z op + 1)) j (scanOf op) (recordsOf z op + 1) (omega arith))
+            at (recordsOf z op + 1) _ (omega arith) (writes-entry (F (recordsOf z op + 1)) (y (recordsOf z op + 1)) j (scanOf op) (recordsOf z op + 1) (omega arith))
             ∙ ap (Wrote (recordOf z (slotOf f op))) e;
+        lower = λ t.
+            at (recordsOf z op + 2) _ (omega (arith, B .total, total-lowers z j (B .lowers ∙ t)))
+            (writes-lower (F (recordsOf z op + 2)) (y (recordsOf z op + 2)) j (scanOf op) (recordsOf z op + 2) (omega arith) (B .lowers ∙ t))
+            ∙ ap (Wrote 1) m;
         confirms = λ more. confirms (writesBy f z op + more) (omega arith);
       }
 

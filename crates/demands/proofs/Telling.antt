@@ -19,7 +19,7 @@ use Rattle.paper.specs.declared.job.Job.{Job}
 use Rattle.paper.specs.declared.job.Step.the-variants as step
 use Rattle.paper.specs.Sizes.{sizesOf, bootBytes, startOf, homeOf}
 use Rattle.paper.specs.Index.{runOf, empty, slotsOf, openOf}
-use Rattle.paper.specs.Store.{recordsFor, countOf, paddedOf, sizesAfter, entryAfter, totalOf}
+use Rattle.paper.specs.Store.{recordsFor, countOf, paddedOf, sizesAfter, entryAfter, lowered, totalOf}
 use Rattle.paper.specs.Step.{agrees, hasLeft, writeAt, stands, confirmOf, stepFile, stepAnswer}
 use Rattle.paper.proofs.Opening.{open-sound, open-reads, slots-holds, holds-slots, full-holds}
 use Rattle.paper.proofs.Sizing.{less, times, home-is, home-in}
@@ -27,7 +27,7 @@ use Rattle.paper.proofs.Encoding.{length-boot}
 use Rattle.paper.proofs.Free.{room-in}
 use Rattle.paper.proofs.Records.{entry-length}
 use Rattle.paper.proofs.Writes.{phases, row-saves}
-use Rattle.paper.proofs.Agreement.{agreed, file-refused, step-file, step-data, step-boot, step-entry, step-past, job-head}
+use Rattle.paper.proofs.Agreement.{agreed, file-refused, step-file, step-data, step-boot, step-entry, step-lower, step-past, job-head}
 use Rattle.demands.specs.Reads.{entryByte}
 use Rattle.demands.specs.Said.{ListExactly, Next, WroteNext, Outside, StepKeeps}
 
@@ -61,7 +61,7 @@ confirm-never f scan j (Opens z) r count e = go (stands f scan j z) (j .saves) e
     go false s e = let z : _≡_ {A = ℕ} 0 1 = cc in omega arith
 
 next : (f scan : List ℕ) (j : Job) (r count : ℕ) (a left : Bool) → agrees f scan j ≡ a → hasLeft (sizesOf f) j ≡ left
-    → cond a (cond left (step.Wrote (writeAt (sizesOf f) scan j .record-no) (j .written + 1)) (confirmOf f scan j (openOf f))) (step.Refused Disagrees)
+    → cond a (cond left (step.Wrote (writeAt f (sizesOf f) scan j .record-no) (j .written + 1)) (confirmOf f scan j (openOf f))) (step.Refused Disagrees)
     ≡ step.Wrote r count
     → Next f scan j r count
 next f scan j r count false left p q e = let z : _≡_ {A = ℕ} 0 1 = cc in absurd (omega arith)
@@ -114,10 +114,9 @@ module _ (f scan : List ℕ) (j : Job) (k54 : length (j .about) ≡ 54) (b : ℕ
       times (j .first + w) (j .first - 1 + recordsFor z (j .size)) (z .l) (omega (arith, A .past s)) in
       written (startOf z (j .first + w)) bs (step-data f scan j z e refl h) (omega arith) (λ x. omega (arith, o .rows s (omega arith)))
 
-  keeps-boot : agrees f scan j ≡ true → j .written ≡ countOf z j → Keeps
-  keeps-boot e h =
-      written 0 (bootBytes (sizesAfter z j)) (step-boot f scan j z e refl h) (omega (arith, length-boot (sizesAfter z j), agreed f scan j e .booted .long))
-      (λ x. omega (arith, length-boot (sizesAfter z j), o .boot))
+  keeps-boot : agrees f scan j ≡ true → (y : Sizes) → stepFile f scan j ≡ write f 0 (bootBytes y) → Keeps
+  keeps-boot e y s =
+      written 0 (bootBytes y) s (omega (arith, length-boot y, agreed f scan j e .booted .long)) (λ x. omega (arith, length-boot y, o .boot))
 
   keeps-entry : agrees f scan j ≡ true → j .written ≡ countOf z j + 1 → Keeps
   keeps-entry e h =
@@ -133,7 +132,7 @@ module _ (f scan : List ℕ) (j : Job) (k54 : length (j .about) ≡ 54) (b : ℕ
   keeps : (a : Bool) → agrees f scan j ≡ a → Keeps
   keeps false e = keeps-file (file-refused f scan j e)
   keeps true e =
-      ⊎-elim (λ (h : j .written < totalOf z j). phases Keeps z j (j .written) h (keeps-row e) (keeps-boot e) (keeps-entry e))
+      ⊎-elim (λ (h : j .written < totalOf z j). phases Keeps z j (j .written) h (keeps-row e) (λ b. keeps-boot e (sizesAfter f z j) (step-boot f scan j z e refl b)) (keeps-entry e) (λ b t. keeps-boot e (lowered f z) (step-lower f scan j z e refl b t)))
       (λ (h : totalOf z j ≤ j .written). keeps-file (step-past f scan j z e refl h)) (lt-or-ge (j .written) (totalOf z j))
 
 pub step-keeps : StepKeeps

@@ -59,7 +59,7 @@ listed-fires cs n r e = judge-refused listed.Refused cs (listed.Scans n) r liste
 -- ---- zeros
 
 zero-job : ZeroJob noJob
-zero-job = record { saves = refl; slot = refl; size = refl; span = refl; first = refl; written = refl; boot = refl; about = refl }
+zero-job = record { saves = refl; slot = refl; size = refl; span = refl; first = refl; written = refl; lowers = refl; boot = refl; about = refl }
 
 zero-entry : ZeroEntry noEntry
 zero-entry =
@@ -86,7 +86,7 @@ begun-none : (cs : List (Check Refusal)) (j : Job) (r : Refusal) → judge refus
 begun-none cs j r e = subst (λ (b : Begun). ZeroJob (b .job)) (sym (judge-fires refused cs (accepted j) r (begun-fires cs j r e))) zero-job
 
 step-kept : (f scan : List ℕ) (j : Job) (r : Refusal) (a left : Bool) → agrees f scan j ≡ a → hasLeft (sizesOf f) j ≡ left
-    → cond a (cond left (step.Wrote (writeAt (sizesOf f) scan j .record-no) (j .written + 1)) (confirmOf f scan j (openOf f))) (step.Refused Disagrees) ≡ step.Refused r
+    → cond a (cond left (step.Wrote (writeAt f (sizesOf f) scan j .record-no) (j .written + 1)) (confirmOf f scan j (openOf f))) (step.Refused Disagrees) ≡ step.Refused r
     → (stepFile f scan j ≡ f) × (stepJob f scan j ≡ j)
 step-kept f scan j r false left p q e = (file-refused f scan j p, job-refused f scan j p)
 step-kept f scan j r true true p q e = let z : _≡_ {A = ℕ} 0 1 = cc in absurd (omega arith)

@@ -1,19 +1,21 @@
 -- Demand 2, of a beginning: the job that an accepted save, keep or clear hands back, and what its record 1 says, in plain facts.
 use Prim.Native.Nat.{ℕ, _+_, _-_, _%_, _≤_, _<_, max}
 use mathlib.Core.Path.{_≡_}
-use mathlib.Core.Bool.{true, false}
+use mathlib.Core.Bool.{true, false, not, cond}
 use mathlib.Core.List.{List}
 use lib.ListN.{length, take, replicate}
+use Rattle.lent.specs.Greatest.{greatest}
 use Rattle.paper.specs.declared.sizes.Sizes.{Sizes}
 use Rattle.paper.specs.declared.answer.Opened.the-variants.{Opens}
 use Rattle.paper.specs.declared.answer.Taken.the-variants.{Accepted}
 use Rattle.paper.specs.declared.job.Job.{Job}
-use Rattle.paper.specs.Sizes.{sizesOf, renewed}
-use Rattle.paper.specs.Index.{runOf, Full, openOf}
+use Rattle.paper.specs.Sizes.{sizesOf, renewed, capacityOf}
+use Rattle.paper.specs.Index.{runOf, empty, Full, openOf}
 use Rattle.paper.specs.Look.{InIndex}
-use Rattle.paper.specs.Store.{recordsFor, saveOf, keepOf, clearOf}
+use Rattle.paper.specs.Store.{recordsFor, highest, saveOf, keepOf, clearOf}
 use Rattle.demands.specs.Causes.{FreeRun}
-use Rattle.demands.specs.History.{Op, save, keep, clear, Whole, begin, recordsOf, slotOf, takes, stateAfter}
+use Rattle.demands.specs.History.{Op, save, keep, clear, Whole, begin, recordsOf, lowersBy, writesBy, slotOf, takes, stateAfter}
+use Rattle.demands.specs.Used.{NoneAbove}
 
 -- ---- the job
 
@@ -29,6 +31,7 @@ pub record Fresh (f : List ℕ) (slot size : ℕ) (j : Job) : Type 0 where
 pub record SaveJob (f : List ℕ) (slot : ℕ) (scan about : List ℕ) (j : Job) : Type 0 where
   pub fresh : Fresh f slot (length scan) j
   pub saves : j .saves ≡ true
+  pub no-third : j .lowers ≡ false
   pub about-is : j .about ≡ about
   pub free : FreeRun f (sizesOf f) (recordsFor (sizesOf f) (length scan)) (j .first)
   pub lowest : (r : ℕ) → FreeRun f (sizesOf f) (recordsFor (sizesOf f) (length scan)) r → j .first ≤ r
@@ -39,12 +42,14 @@ pub record LowestEmpty (f : List ℕ) (slot : ℕ) : Type 0 where
   pub empty : runOf f (sizesOf f) slot .first + runOf f (sizesOf f) slot .last ≡ 0
   pub below : (t : ℕ) → 1 ≤ t → t < slot → Full (runOf f (sizesOf f) t)
 
--- a clear "is lent an empty scan"; it has no records and no bytes 8 to 61 to give
+-- a clear "is lent an empty scan"; it has no records and no bytes 8 to 61 to give; 02, 2026-04: it says whether it is "a clear of that highest slot"
 pub record ClearJob (f : List ℕ) (slot : ℕ) (j : Job) : Type 0 where
   pub fresh : Fresh f slot 0 j
   pub clears : j .saves ≡ false
   pub no-place : j .first ≡ 0
   pub no-about : j .about ≡ replicate 54 0
+  pub third : NoneAbove f (sizesOf f) slot → j .lowers ≡ true
+  pub no-third : (s : ℕ) → slot < s → s ≤ capacityOf (sizesOf f) → Full (runOf f (sizesOf f) s) → j .lowers ≡ false
 
 pub record Begins : Type 0 where
   pub save-job : (f : List ℕ) (slot : ℕ) (scan about : List ℕ) → saveOf f slot scan about .answer ≡ Accepted
@@ -55,20 +60,28 @@ pub record Begins : Type 0 where
 
 -- ---- record 1
 
--- "D = max(D, r+k-1-N), U = max(U, slot) and the counter one higher"
-abbrev pub saved : List ℕ → Sizes → Op → Sizes
-saved f z op = renewed z (max (z .d) (begin f op .job .first + recordsOf z op - 1 - z .n)) (max (z .u) (slotOf f op)) ((z .counter + 1) % 4294967296)
+-- "D = max(D, r+k-1-N)"; a clear leaves D
+abbrev pub dataBy : List ℕ → Sizes → Op → ℕ
+dataBy f z (save slot scan about) = max (z .d) (begin f (save slot scan about) .job .first + recordsFor z (length scan) - 1 - z .n)
+dataBy f z (keep scan about) = max (z .d) (begin f (keep scan about) .job .first + recordsFor z (length scan) - 1 - z .n)
+dataBy f z (clear slot) = z .d
 
--- of a clear "counter only"
+-- "and the counter one higher"; 02, 2026-04: "U to the highest slot with a scan, the one being saved or cleared counted"
 abbrev pub grown : List ℕ → Sizes → Op → Sizes
-grown f z (save slot scan about) = saved f z (save slot scan about)
-grown f z (keep scan about) = saved f z (keep scan about)
-grown f z (clear slot) = renewed z (z .d) (z .u) ((z .counter + 1) % 4294967296)
+grown f z op = renewed z (dataBy f z op) (max (highest f z) (slotOf f op)) ((z .counter + 1) % 4294967296)
 
--- what the bootstrap says before record 1 is written, and from then on
+-- "U lowered to what is left, or 0": the highest slot with a scan below this one; "its counter isn't raised twice"
+abbrev pub leftBelow : List ℕ → Sizes → ℕ → ℕ
+leftBelow f z slot = greatest (λ s. not (empty (runOf f z s))) (slot - 1)
+
+abbrev pub lowered : List ℕ → Sizes → Op → Sizes
+lowered f z op = renewed z (dataBy f z op) (leftBelow f z (slotOf f op)) ((z .counter + 1) % 4294967296)
+
+-- what the bootstrap says before record 1 is written, then, and after the last write
 pub record Grows (f : List ℕ) (z : Sizes) (op : Op) : Type 0 where
   pub before : (i : ℕ) → i ≤ recordsOf z op → sizesOf (stateAfter f op i .file) ≡ z
-  pub after : (i : ℕ) → recordsOf z op < i → sizesOf (stateAfter f op i .file) ≡ grown f z op
+  pub after : (i : ℕ) → recordsOf z op < i → i ≤ recordsOf z op + 2 → sizesOf (stateAfter f op i .file) ≡ grown f z op
+  pub ended : (i : ℕ) → writesBy f z op ≤ i → sizesOf (stateAfter f op i .file) ≡ cond (lowersBy f z op) (lowered f z op) (grown f z op)
 
 abbrev pub RecordOne : Type 0
 RecordOne = (f : List ℕ) (z : Sizes) → openOf f ≡ Opens z → (op : Op) → Whole op → takes f op ≡ true → Grows f z op

@@ -16,7 +16,7 @@ use Rattle.paper.specs.declared.job.Step.{Step}
 use Rattle.paper.specs.Sizes.{sizesOf}
 use Rattle.paper.specs.Index.{shownOf, entryAt}
 use Rattle.paper.specs.Entry.{entryBytes}
-use Rattle.paper.specs.Store.{recordsFor, runFrom, placeFor, saveOf, keepOf, clearOf}
+use Rattle.paper.specs.Store.{recordsFor, runFrom, highest, placeFor, saveOf, keepOf, clearOf}
 use Rattle.paper.specs.Step.{stepFile, stepJob, stepAnswer}
 
 -- ---- one operation
@@ -50,9 +50,15 @@ recordsOf z (save slot scan about) = recordsFor z (length scan)
 recordsOf z (keep scan about) = recordsFor z (length scan)
 recordsOf z (clear slot) = 0
 
--- how many records it writes in all, begun on f: its data records, record 1 and the index record
+-- 02, 2026-04: "A clear of that highest slot gets a third write"
+abbrev pub lowersBy : List ℕ → Sizes → Op → Bool
+lowersBy f z (save slot scan about) = false
+lowersBy f z (keep scan about) = false
+lowersBy f z (clear slot) = eqb slot (highest f z)
+
+-- how many records it writes in all, begun on f: its data records, record 1, the index record, and record 1 again
 abbrev pub writesBy : List ℕ → Sizes → Op → ℕ
-writesBy f z op = recordsOf z op + 2
+writesBy f z op = recordsOf z op + 2 + cond (lowersBy f z op) 1 0
 
 -- the slot that it changes
 abbrev pub slotOf : List ℕ → Op → ℕ

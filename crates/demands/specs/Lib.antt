@@ -1,5 +1,6 @@
 pub mod History
 pub mod Survival
+pub mod Used
 pub mod Causes
 pub mod Begun
 pub mod Truth

@@ -27,9 +27,9 @@ ListExactly = (f : List ℕ) (z : Sizes) → openOf f ≡ Opens z → Exactly f 
 
 -- what a step that wrote did: the next write of its job's list, and no other
 pub record Next (f scan : List ℕ) (j : Job) (r count : ℕ) : Type 0 where
-  pub record-is : r ≡ writeAt (sizesOf f) scan j .record-no
+  pub record-is : r ≡ writeAt f (sizesOf f) scan j .record-no
   pub counts : count ≡ j .written + 1
-  pub file : stepFile f scan j ≡ perform f (writeAt (sizesOf f) scan j)
+  pub file : stepFile f scan j ≡ perform f (writeAt f (sizesOf f) scan j)
   pub job : stepJob f scan j .written ≡ count
 
 abbrev pub WroteNext : Type 0

@@ -29,6 +29,7 @@ pub record ZeroJob (j : Job) : Type 0 where
   pub span : j .span ≡ 0
   pub first : j .first ≡ 0
   pub written : j .written ≡ 0
+  pub lowers : j .lowers ≡ false
   pub boot : j .boot ≡ replicate 32 0
   pub about : j .about ≡ replicate 54 0
 

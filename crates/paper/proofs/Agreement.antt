@@ -22,13 +22,13 @@ use Rattle.paper.specs.declared.job.Step.{Step}
 use Rattle.paper.specs.declared.job.Step.the-variants.{Wrote, Refused}
 use Rattle.paper.specs.Sizes.{sizesOf, bootBytes, recordOf, startOf, homeOf, versionOf, changeBoot}
 use Rattle.paper.specs.Index.{openOf, Booted}
-use Rattle.paper.specs.Store.{Write, perform, countOf, paddedOf, sizesAfter, entryAfter, entryWrite, totalOf}
+use Rattle.paper.specs.Store.{Write, perform, countOf, paddedOf, sizesAfter, entryAfter, sizesWrite, entryWrite, lowersOf, lowered, totalOf}
 use Rattle.paper.specs.Step.{isClear, agreeTests, agrees, writeAt, hasLeft, stepFile, placed, moved, stepJob, standTests, stands, confirmOf, stepAnswer, steppedOf, Agreeing, Standing}
 use Rattle.paper.proofs.Opening.{change-booted, booted-change}
 use Rattle.paper.proofs.Sizing.{times, home-in}
 use Rattle.paper.proofs.Encoding.{length-boot}
 use Rattle.paper.proofs.Free.{room-in}
-use Rattle.paper.proofs.Writes.{phases, writes-row, writes-boot, writes-entry, writes-past, row-saves, row-is}
+use Rattle.paper.proofs.Writes.{total-lowers, phases, writes-row, writes-boot, writes-entry, writes-lower, writes-past, row-saves, row-is}
 
 -- refusals 1 to 5, as a fact and as a test
 clear-booted : (f : List ℕ) → isClear (fired (changeBoot f)) ≡ true → Booted f (sizesOf f) × (versionOf f ≡ 1)
@@ -121,13 +121,13 @@ head-kept : (f : List ℕ) (at : ℕ) (bytes : List ℕ) → 32 ≤ at → at �
 head-kept f at bytes h l = sym (take-take 32 at (write f at bytes) h) ∙ ap (take 32) (take-write f at bytes l) ∙ take-take 32 at f h
 
 module _ (f scan : List ℕ) (j : Job) (z : Sizes) (agree : agrees f scan j ≡ true) (reads : sizesOf f ≡ z) where
-  pub step-file : stepFile f scan j ≡ perform f (writeAt z scan j)
+  pub step-file : stepFile f scan j ≡ perform f (writeAt f z scan j)
   unfolding stepFile
-  step-file = subst (λ (y : Sizes). stepFile f scan j ≡ perform f (writeAt y scan j)) reads (rw agree)
+  step-file = subst (λ (y : Sizes). stepFile f scan j ≡ perform f (writeAt f y scan j)) reads (rw agree)
 
   pub step-data : j .written < countOf z j
       → stepFile f scan j ≡ write f (startOf z (j .first + j .written)) (take (z .l) (drop (j .written * z .l) (paddedOf z j scan)))
-  step-data h = step-file ∙ ap (perform f) (writes-row z j scan (j .written) h)
+  step-data h = step-file ∙ ap (perform f) (writes-row f z j scan (j .written) h)
 
   -- the same, as code makes the record: what is left of the scan, and zeros
   pub step-row : j .written < countOf z j
@@ -138,14 +138,17 @@ module _ (f scan : List ℕ) (j : Job) (z : Sizes) (agree : agrees f scan j ≡ 
       step-data h ∙ ap (λ (x : List ℕ). write f (startOf z (j .first + j .written)) (take (z .l) (drop (j .written * z .l) x))) p
       ∙ ap (write f (startOf z (j .first + j .written))) (row-is (z .l) (countOf z j) scan (j .written) h)
 
-  pub step-boot : j .written ≡ countOf z j → stepFile f scan j ≡ write f 0 (bootBytes (sizesAfter z j))
-  step-boot h = step-file ∙ ap (perform f) (writes-boot z j scan (j .written) h)
+  pub step-boot : j .written ≡ countOf z j → stepFile f scan j ≡ write f 0 (bootBytes (sizesAfter f z j))
+  step-boot h = step-file ∙ ap (perform f) (writes-boot f z j scan (j .written) h)
 
   pub step-entry : j .written ≡ countOf z j + 1 → stepFile f scan j ≡ write f (homeOf z (j .slot)) (entryAfter z j)
-  step-entry h = step-file ∙ ap (perform f) (writes-entry z j scan (j .written) h)
+  step-entry h = step-file ∙ ap (perform f) (writes-entry f z j scan (j .written) h)
+
+  pub step-lower : j .written ≡ countOf z j + 2 → lowersOf j ≡ true → stepFile f scan j ≡ write f 0 (bootBytes (lowered f z))
+  step-lower h t = step-file ∙ ap (perform f) (writes-lower f z j scan (j .written) h t)
 
   pub step-past : totalOf z j ≤ j .written → stepFile f scan j ≡ f
-  step-past h = step-file ∙ ap (perform f) (writes-past z j scan (j .written) h) ∙ write-nothing f 0
+  step-past h = step-file ∙ ap (perform f) (writes-past f z j scan (j .written) h) ∙ write-nothing f 0
 
   -- ---- the job
 
@@ -155,9 +158,9 @@ module _ (f scan : List ℕ) (j : Job) (z : Sizes) (agree : agrees f scan j ≡ 
   none-left : totalOf z j ≤ j .written → hasLeft z j ≡ false
   none-left h = le-ltb (j .written) (totalOf z j) h
 
-  step-job : stepJob f scan j ≡ cond (hasLeft z j) (moved (writeAt z scan j) j) j
+  step-job : stepJob f scan j ≡ cond (hasLeft z j) (moved (writeAt f z scan j) j) j
   unfolding stepJob
-  step-job = subst (λ (y : Sizes). stepJob f scan j ≡ cond (hasLeft y j) (moved (writeAt y scan j) j) j) reads (rw agree)
+  step-job = subst (λ (y : Sizes). stepJob f scan j ≡ cond (hasLeft y j) (moved (writeAt f y scan j) j) j) reads (rw agree)
 
   pub job-past : totalOf z j ≤ j .written → stepJob f scan j ≡ j
   job-past h = step-job ∙ rw (none-left h)
@@ -169,7 +172,7 @@ module _ (f scan : List ℕ) (j : Job) (z : Sizes) (agree : agrees f scan j ≡ 
   abbrev Heads : Write → Type 0
   Heads w = moved w j ≡ placed j (j .written + 1) (take 32 (perform f w))
 
-  head-boot : (y : Sizes) → Heads (record { at = 0; bytes = bootBytes y; record-no = 1 })
+  head-boot : (y : Sizes) → Heads (sizesWrite y)
   head-boot y =
       let n : 0 + length (bootBytes y) - 0 ≡ 32 = omega (arith, length-boot y) in
       ap (placed j (j .written + 1)) (sym (ap (λ (k : ℕ). take k (write f 0 (bootBytes y))) (sym n) ∙ part-in f 0 (bootBytes y) (omega arith)))
@@ -179,49 +182,57 @@ module _ (f scan : List ℕ) (j : Job) (z : Sizes) (agree : agrees f scan j ≡ 
       ap (λ (t : Bool). placed j (j .written + 1) (cond t (w .bytes) (j .boot))) (ne-eqb (w .record-no) 1 n)
       ∙ ap (placed j (j .written + 1)) (sym (head-kept f (w .at) (w .bytes) a l ∙ agree-at .begun))
 
-  head-row : j .written < countOf z j → Heads (writeAt z scan j)
+  head-row : j .written < countOf z j → Heads (writeAt f z scan j)
   head-row h =
       let r : ℕ = j .first + j .written in
       let s : j .saves ≡ true = row-saves z j (omega arith) in
       let q = agree-at .booted .ranged .shape in
       let p = agree-at .past s in
-      subst Heads (sym (writes-row z j scan (j .written) h))
+      subst Heads (sym (writes-row f z j scan (j .written) h))
       (head-other (record { at = startOf z r; bytes = take (z .l) (drop (j .written * z .l) (paddedOf z j scan)); record-no = r }) (λ e. omega arith)
       (omega (arith, times 1 (r - 1) (z .l) (omega arith)))
       (omega (arith, room-in z (length f) (r - 1) (omega (arith, agree-at .within s)))))
 
-  head-entry : j .written ≡ countOf z j + 1 → Heads (writeAt z scan j)
+  head-entry : j .written ≡ countOf z j + 1 → Heads (writeAt f z scan j)
   head-entry h =
       let q = agree-at .booted .ranged .shape in
-      subst Heads (sym (writes-entry z j scan (j .written) h))
+      subst Heads (sym (writes-entry f z j scan (j .written) h))
       (head-other (entryWrite z j) (λ e. omega arith) (omega arith) (omega (arith, home-in (agree-at .booted) (j .slot) (agree-at .low) (agree-at .high))))
 
   pub job-head : j .written < totalOf z j → stepJob f scan j ≡ placed j (j .written + 1) (take 32 (stepFile f scan j))
   job-head h =
       step-job ∙ rw (left-is h)
-      (phases (Heads (writeAt z scan j)) z j (j .written) h head-row
-      (λ e. subst Heads (sym (writes-boot z j scan (j .written) e)) (head-boot (sizesAfter z j))) head-entry
+      (phases (Heads (writeAt f z scan j)) z j (j .written) h head-row
+      (λ e. subst Heads (sym (writes-boot f z j scan (j .written) e)) (head-boot (sizesAfter f z j))) head-entry
+      (λ e t. subst Heads (sym (writes-lower f z j scan (j .written) e t)) (head-boot (lowered f z)))
       ∙ ap (λ (g : List ℕ). placed j (j .written + 1) (take 32 g)) (sym step-file))
 
   -- ---- the answer
 
-  step-answer : stepAnswer f scan j ≡ cond (hasLeft z j) (Wrote (writeAt z scan j .record-no) (j .written + 1)) (confirmOf f scan j (openOf f))
+  step-answer : stepAnswer f scan j ≡ cond (hasLeft z j) (Wrote (writeAt f z scan j .record-no) (j .written + 1)) (confirmOf f scan j (openOf f))
   unfolding stepAnswer
   step-answer =
-      subst (λ (y : Sizes). stepAnswer f scan j ≡ cond (hasLeft y j) (Wrote (writeAt y scan j .record-no) (j .written + 1)) (confirmOf f scan j (openOf f)))
+      subst (λ (y : Sizes). stepAnswer f scan j ≡ cond (hasLeft y j) (Wrote (writeAt f y scan j .record-no) (j .written + 1)) (confirmOf f scan j (openOf f)))
       reads (rw agree)
 
-  pub answer-wrote : j .written < totalOf z j → stepAnswer f scan j ≡ Wrote (writeAt z scan j .record-no) (j .written + 1)
+  pub answer-wrote : j .written < totalOf z j → stepAnswer f scan j ≡ Wrote (writeAt f z scan j .record-no) (j .written + 1)
   answer-wrote h = step-answer ∙ rw (left-is h)
 
+  -- a third write is one of the writes
+  left-lower : j .written ≡ countOf z j + 2 → lowersOf j ≡ true → j .written < totalOf z j
+  left-lower h t = omega (arith, total-lowers z j t)
+
   pub answer-row : j .written < countOf z j → stepAnswer f scan j ≡ Wrote (j .first + j .written) (j .written + 1)
-  answer-row h = answer-wrote (omega arith) ∙ ap (λ (w : Write). Wrote (w .record-no) (j .written + 1)) (writes-row z j scan (j .written) h)
+  answer-row h = answer-wrote (omega arith) ∙ ap (λ (w : Write). Wrote (w .record-no) (j .written + 1)) (writes-row f z j scan (j .written) h)
 
   pub answer-boot : j .written ≡ countOf z j → stepAnswer f scan j ≡ Wrote 1 (j .written + 1)
-  answer-boot h = answer-wrote (omega arith) ∙ ap (λ (w : Write). Wrote (w .record-no) (j .written + 1)) (writes-boot z j scan (j .written) h)
+  answer-boot h = answer-wrote (omega arith) ∙ ap (λ (w : Write). Wrote (w .record-no) (j .written + 1)) (writes-boot f z j scan (j .written) h)
 
   pub answer-entry : j .written ≡ countOf z j + 1 → stepAnswer f scan j ≡ Wrote (recordOf z (j .slot)) (j .written + 1)
-  answer-entry h = answer-wrote (omega arith) ∙ ap (λ (w : Write). Wrote (w .record-no) (j .written + 1)) (writes-entry z j scan (j .written) h)
+  answer-entry h = answer-wrote (omega arith) ∙ ap (λ (w : Write). Wrote (w .record-no) (j .written + 1)) (writes-entry f z j scan (j .written) h)
+
+  pub answer-lower : j .written ≡ countOf z j + 2 → lowersOf j ≡ true → stepAnswer f scan j ≡ Wrote 1 (j .written + 1)
+  answer-lower h t = answer-wrote (left-lower h t) ∙ ap (λ (w : Write). Wrote (w .record-no) (j .written + 1)) (writes-lower f z j scan (j .written) h t)
 
   pub answer-past : totalOf z j ≤ j .written → stepAnswer f scan j ≡ confirmOf f scan j (openOf f)
   answer-past h = step-answer ∙ rw (none-left h)

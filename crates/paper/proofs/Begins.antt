@@ -31,14 +31,15 @@ use Rattle.paper.specs.Sizes.{sizesOf, capacityOf, startOf, roomOf}
 use Rattle.paper.specs.Index.{runOf, empty, Full, changeChecks, openOf, Lies, Sound, Changeable}
 use Rattle.paper.specs.Scan.{headlen, datalen, ruledOf}
 use Rattle.paper.specs.Look.{slotTests, noSlot, heldChecks, slotChecks, InIndex}
-use Rattle.paper.specs.Store.{recordsFor, runFrom, emptySlot, refused, accepted, placeFor, savesAt, saveJob, clearJob, reasonOf, scanChecks, saveOf, keepSlot, keepOf, clearOf, dataFrom, dataWrites, sizesAfter, entryAfter}
-use Rattle.paper.proofs.Opening.{full-facts, facts-full, full-holds, then-clear, may-change, change-may, empty-lies}
+use Rattle.paper.specs.Store.{recordsFor, runFrom, emptySlot, highest, refused, accepted, placeFor, savesAt, saveJob, clearJob, reasonOf, scanChecks, saveOf, keepSlot, keepOf, clearOf, dataFrom, dataWrites, sizesAfter, entryAfter}
+use Rattle.paper.proofs.Opening.{full-facts, facts-full, then-clear, may-change, change-may, empty-lies}
 use Rattle.paper.proofs.Rules.{keeps-lengths}
 use Rattle.paper.proofs.Reasons.{no-reason}
 use Rattle.paper.proofs.Writes.{enough, some-record}
 use Rattle.paper.specs.Step.{Agreeing}
 use Rattle.paper.proofs.Encoding.{statedBy, length-entry, entry-states, zeros-state}
 use Rattle.paper.proofs.Free.{performs, FreeAt, place-free, free-nobody, room-in, used-room, data-free, data-all}
+use Rattle.paper.proofs.Used.{highest-le, full-highest}
 use Rattle.paper.proofs.Bootstrap.{covers-more}
 use Rattle.paper.proofs.IndexLaw.{Alone}
 use Rattle.paper.proofs.Ready.{Ready}
@@ -90,7 +91,7 @@ module _ {f : List ℕ} {z : Sizes} (S : Sound f z) (v : z .version ≡ 1) (slot
       ∙ ap (λ (n : ℕ). part (startOf z r) (startOf z r + n) (write f (startOf z r) bs)) (sym length-padded)
       ∙ part-in f (startOf z r) bs (omega (arith, fits))
 
-  lies : Lies (sizesAfter z j) (runFrom r K)
+  lies : Lies (sizesAfter f z j) (runFrom r K)
   lies = let k = K₁ in let p = F .past in record { low = λ h. p; order = λ h. omega arith; high = omega arith }
 
   pub save-ready : Begins z f scan (savesAt f slot scan about r)
@@ -100,18 +101,19 @@ module _ {f : List ℕ} {z : Sizes} (S : Sound f z) (v : z .version ≡ 1) (slot
           sound = S;
           current = v;
           low = s₁;
-          used = omega arith;
+          high = s₂;
           free =
               data-free z f K r (pad (K * z .l) scan) length-padded (F .past) (λ q a b. room-in z (length f) q (omega (arith, last-in)))
               (λ s q a b. free-nobody F (S .laid) s q a (omega (arith, S .booted .ranged .used)));
-          covers = covers-more S (omega arith) (omega arith) (omega (arith, last-in, used-room (S .booted))) (omega (arith, S .booted .ranged .used));
+          covers = covers-more S (omega arith) (omega arith) (omega (arith, last-in, used-room (S .booted))) (omega (arith, highest-le f z));
           entry = length-entry z (runFrom r K) about k54 (omega (arith, S .booted .ranged .shape .m-low));
-          lies = subst (Lies (sizesAfter z j)) (sym states) lies;
+          lies = subst (Lies (sizesAfter f z j)) (sym states) lies;
           alone =
               subst (Alone z (runOf f z) slot) (sym states)
               (λ t q a b ne n x y. free-nobody F (S .laid) t q a b x (omega (arith, K₁)));
           from = ap (λ (x : Run). startOf z (x .first)) states;
           to = ap (λ (x : Run). x .last * z .l) states ∙ last-byte;
+          settles = λ t e. let q : r + (r + K - 1) ≡ 0 = subst (λ (x : Run). x .first + x .last ≡ 0) states e in absurd (omega (arith, F .past));
           gives = gives;
         };
         agreeing = record {
@@ -140,6 +142,9 @@ module _ {f : List ℕ} {z : Sizes} (S : Sound f z) (v : z .version ≡ 1) (slot
   blank : statedBy (zeros (z .m)) ≡ record { first = 0; last = 0 }
   blank = zeros-state (z .m)
 
+  not-highest : eqb slot (highest f (sizesOf f)) ≡ false → slot ≢ highest f z
+  not-highest t = eqb-false slot (highest f z) (subst (λ (y : Sizes). eqb slot (highest f y) ≡ false) (S .booted .reads) t)
+
   pub clear-ready : Begins z f [] (clearJob f slot)
   unfolding dataFrom
   clear-ready =
@@ -148,14 +153,15 @@ module _ {f : List ℕ} {z : Sizes} (S : Sound f z) (v : z .version ≡ 1) (slot
           sound = S;
           current = v;
           low = s₁;
-          used = full-holds (S .laid) slot s₁ s₂ there .high;
+          high = s₂;
           free = tt;
-          covers = covers-more S (omega arith) (omega arith) (used-room (S .booted)) (S .booted .ranged .used);
+          covers = covers-more S (omega arith) (omega arith) (used-room (S .booted)) (omega (arith, highest-le f z));
           entry = length-zeros (z .m);
-          lies = subst (Lies (sizesAfter z q)) (sym blank) (empty-lies (sizesAfter z q) _ refl);
+          lies = subst (Lies (sizesAfter f z q)) (sym blank) (empty-lies (sizesAfter f z q) _ refl);
           alone = subst (Alone z (runOf f z) slot) (sym blank) (λ t r a b ne n x y v w. omega arith);
           from = ap (λ (x : Run). startOf z (x .first)) blank;
           to = ap (λ (x : Run). x .last * z .l) blank ∙ omega (arith, zero-mul (z .l));
+          settles = λ t e. omega (arith, not-highest t, full-highest f z slot s₂ there);
           gives =
               part-none (startOf z 0) (startOf z 0 + 0 * z .l) f (omega (arith, zero-mul (z .l)))
               ∙ sym (pad-none (0 * z .l) [] (omega (arith, zero-mul (z .l))));

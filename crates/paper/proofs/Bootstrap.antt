@@ -12,11 +12,13 @@ use Rattle.paper.specs.declared.sizes.Sizes.{Sizes}
 use Rattle.paper.specs.declared.sizes.Run.{Run}
 use Rattle.paper.specs.Sizes.{bootBytes, renewed, capacityOf, roomOf, Ranged}
 use Rattle.paper.specs.Index.{runOf, Lies, Laid, Sound}
+use Rattle.paper.specs.Store.{highest}
 use Rattle.paper.proofs.Sizing.{head-long, home-in}
 use Rattle.paper.proofs.Opening.{inside-all, apart-all, lies-end, lies-past}
 use Rattle.paper.proofs.Encoding.{length-boot, boot-reads, boot-version}
 use Rattle.paper.proofs.Frame.{Kept, laid-same, run-same, shown-same, entry-same}
 use Rattle.paper.proofs.Free.{room-in}
+use Rattle.paper.proofs.Used.{highest-above}
 
 -- D and U leave every listed scan in: none ends past N+D, none is in a slot above U, and N+D lies within the room
 pub record Covers (z : Sizes) (run : ℕ → Run) (len d u : ℕ) : Type 0 where
@@ -25,13 +27,13 @@ pub record Covers (z : Sizes) (run : ℕ → Run) (len d u : ℕ) : Type 0 where
   pub room : z .n + d ≤ roomOf z len
   pub slots : u ≤ capacityOf z
 
--- as D and U do that are not lowered
-pub covers-more : {f : List ℕ} {z : Sizes} {d u : ℕ} → Sound f z → z .d ≤ d → z .u ≤ u → z .n + d ≤ roomOf z (length f) → u ≤ capacityOf z
+-- as a D does that is not lowered, with a U no lower than the highest slot with a scan
+pub covers-more : {f : List ℕ} {z : Sizes} {d u : ℕ} → Sound f z → z .d ≤ d → highest f z ≤ u → z .n + d ≤ roomOf z (length f) → u ≤ capacityOf z
     → Covers z (runOf f z) (length f) d u
-covers-more S hd hu r c =
+covers-more {f} {z} S hd hu r c =
     record {
       ends = λ s a b. omega (arith, inside-all (S .laid) s a b .high);
-      over = λ s a b. S .laid .above s (omega arith) b;
+      over = λ s a b. highest-above f z s (omega arith) b;
       room = r;
       slots = c;
     }

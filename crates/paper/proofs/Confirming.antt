@@ -76,10 +76,10 @@ module _ (f scan : List ℕ) (j : Job) where
 
   -- by what the step came to
   came : (a left : Bool) (o : Opened) (s : Step) → agrees f scan j ≡ a → hasLeft (sizesOf f) j ≡ left → openOf f ≡ o
-      → cond a (cond left (Wrote (writeAt (sizesOf f) scan j .record-no) (j .written + 1)) (confirmOf f scan j o)) (Refused Disagrees) ≡ s
+      → cond a (cond left (Wrote (writeAt f (sizesOf f) scan j .record-no) (j .written + 1)) (confirmOf f scan j o)) (Refused Disagrees) ≡ s
       → isConfirmed s ≡ true → Came s
   came false left o s p q e h c = absurd (never (Refused Disagrees) s refl c h)
-  came true true o s p q e h c = absurd (never (Wrote (writeAt (sizesOf f) scan j .record-no) (j .written + 1)) s refl c h)
+  came true true o s p q e h c = absurd (never (Wrote (writeAt f (sizesOf f) scan j .record-no) (j .written + 1)) s refl c h)
   came true false (opened.Refused r) s p q e h c = absurd (never (Refused r) s refl c h)
   came true false (opened.Opens z) s p q e h c = stood-came z (stands f scan j z) s (facts z p q e) h c
 

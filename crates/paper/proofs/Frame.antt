@@ -1,6 +1,6 @@
 -- The frame law: a file with the same length, bootstrap, index and bytes of every listed scan opens alike, lists the same and shows the same.
 use Prim.Native.Nat.{ℕ, _+_, _*_, _≤_, _<_}
-use mathlib.Core.Path.{_≡_, _∙_, ap}
+use mathlib.Core.Path.{_≡_, refl, _∙_, ap}
 use mathlib.Core.List.{List}
 use mathlib.Core.Logic.{⊎-elim}
 use native.Mathlib.Omega.{arith}
@@ -63,6 +63,9 @@ pub record Kept (z : Sizes) (f g : List ℕ) : Type 0 where
   pub runs : (s : ℕ) → 1 ≤ s → s ≤ capacityOf z → runOf g z s ≡ runOf f z s
   pub shown : (s : ℕ) → 1 ≤ s → s ≤ capacityOf z → shownOf g z s ≡ shownOf f z s
   pub entries : (s : ℕ) → 1 ≤ s → s ≤ capacityOf z → entryAt g z s ≡ entryAt f z s
+
+pub kept-refl : (z : Sizes) (f : List ℕ) → Kept z f f
+kept-refl z f = record { runs = λ s a b. refl; shown = λ s a b. refl; entries = λ s a b. refl }
 
 pub kept-then : {z : Sizes} {f g h : List ℕ} → Kept z f g → Kept z g h → Kept z f h
 kept-then p q =

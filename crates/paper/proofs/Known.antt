@@ -7,6 +7,7 @@ use lib.ListN.{length}
 use Rattle.lent.specs.Number.{number, value, digit, bytes, numbers, int16, widened}
 use Rattle.lent.specs.Lists.{table, every, those}
 use Rattle.lent.specs.Least.{least}
+use Rattle.lent.specs.Greatest.{greatest}
 use Rattle.lent.specs.Part.{placeIn}
 use Rattle.lent.specs.Write.{write, zeros, pad}
 use Rattle.lent.specs.Same.{same}
@@ -21,7 +22,7 @@ use Rattle.paper.specs.Store.{freeAt, freePlace, emptySlot, saveOf, keep
 use Rattle.paper.specs.Step.{agrees, stands}
 use Rattle.paper.specs.Convert.{bootAs, scanAs, entryAs, entriesAs, recordsAs, otherMagic, wideRun, convertOf, convertedOut, joined}
 use Rattle.paper.specs.Lister.{digits, linesText, listText, printed}
-use Rattle.paper.specs.Known.{Refusals, Answers, Boot, OldBoot, Entries, Kinds, scan13, scan15, Scans, Rules, Index, Places, file, File, oldFile, OldFile, InBytes, Edges, Conversions, Parts, Agrees, Stands, Renewed, Zeros, Prints}
+use Rattle.paper.specs.Known.{Refusals, Answers, Boot, OldBoot, Entries, Kinds, scan13, scan15, Scans, Rules, Index, Places, file, File, oldFile, OldFile, InBytes, Edges, Conversions, Parts, Agrees, Stands, Renewed, UsedNumber, Zeros, Prints}
 
 pub refusals : Refusals
 refusals =
@@ -248,6 +249,10 @@ agreeing =
       too-many = refl;
       clear = refl;
       clear-too-many = refl;
+      third = refl;
+      third-too-many = refl;
+      save-lowers = refl;
+      save-lowers-too-many = refl;
     }
 
 pub oldFiles : OldFile
@@ -352,6 +357,7 @@ parts =
     }
 
 pub renewed : Renewed
+unfolding number value greatest wordAt empty scan13 scan15 file
 renewed =
     record {
       blank = refl;
@@ -359,6 +365,31 @@ renewed =
       as-it-was = refl;
       cleared = refl;
       all-ones = refl;
+    }
+
+pub usedNumber : UsedNumber
+unfolding number value digit bytes numbers int16 table every least greatest write zeros pad exactly wholeFloat wholeOf ofBits lengthOf isWhole sizeOf wordAt counterOf typeOf bootBytes shaped inRange empty inData badAt aboveAt shares sharer sharedAt classesOf startsOf rule1 rule2 rule3 rule4 rule5 rule6 rising ruledOf entryBytes freeAt freePlace dataFrom writesOf saveOf clearOf scan13 scan15 file
+usedNumber =
+    record {
+      highest-3 = refl;
+      above-use = refl;
+      last-alone = refl;
+      first-alone = refl;
+      gap = refl;
+      none = refl;
+      saved-4 = refl;
+      saved-2 = refl;
+      cleared-3 = refl;
+      lowers-3 = refl;
+      lowers-1 = refl;
+      taken-3 = refl;
+      never-3 = refl;
+      lowered-2 = refl;
+      lowered-0 = refl;
+      three = refl;
+      two = refl;
+      of-a-save = refl;
+      third-is = refl;
     }
 
 pub zeroed : Zeros

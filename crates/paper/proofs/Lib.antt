@@ -12,6 +12,7 @@ pub mod Classes
 pub mod Encoding
 pub mod Frame
 pub mod Free
+pub mod Used
 pub mod Bootstrap
 pub mod IndexLaw
 pub mod Ready

@@ -11,11 +11,11 @@ use Rattle.lent.proofs.Writes.{length-zeros}
 use Rattle.paper.specs.declared.sizes.Sizes.{Sizes}
 use Rattle.paper.specs.declared.job.Job.{Job}
 use Rattle.paper.specs.Sizes.{placeOf, startOf, Shaped}
-use Rattle.paper.specs.Store.{Write, runFrom, countOf, paddedOf, entryAfter, entryWrite, writesOf, sizesAfter}
+use Rattle.paper.specs.Store.{Write, runFrom, countOf, paddedOf, entryAfter, sizesWrite, entryWrite, writesOf, sizesAfter, lowered}
 use Rattle.paper.specs.Step.{noWrite}
 use Rattle.paper.proofs.Sizing.{times, home-is}
 use Rattle.paper.proofs.Encoding.{length-boot, length-entry}
-use Rattle.paper.proofs.Writes.{length-writes, phases, writes-row, writes-boot, writes-entry}
+use Rattle.paper.proofs.Writes.{length-writes, phases, writes-row, writes-boot, writes-entry, writes-lower}
 
 -- the bytes of w lie in its record
 pub record InRecord (z : Sizes) (w : Write) : Type 0 where
@@ -55,11 +55,15 @@ module _ (z : Sizes) (R : Shaped z) where
         to = omega (arith, home-is z (j .slot), place-fits (j .slot), entry-length j h);
       }
 
+  boot-in : (y : Sizes) → InRecord z (sizesWrite y)
+  boot-in y = record { from = omega arith; to = omega (arith, length-boot y) }
+
   -- each write of a job's list, whatever the job's numbers
-  pub writes-in-record : (j : Job) (scan : List ℕ) → length (j .about) ≡ 54 → (i : ℕ) → i < length (writesOf z j scan)
-      → InRecord z (getD (writesOf z j scan) i noWrite)
-  writes-in-record j scan h i less =
-      phases (InRecord z (getD (writesOf z j scan) i noWrite)) z j i (omega (arith, length-writes z j scan))
-      (λ a. subst (InRecord z) (sym (writes-row z j scan i a)) (record { from = omega arith; to = omega (arith, length-take (z .l) (drop (i * z .l) (paddedOf z j scan))) }))
-      (λ b. subst (InRecord z) (sym (writes-boot z j scan i b)) (record { from = omega arith; to = omega (arith, length-boot (sizesAfter z j)) }))
-      (λ b. subst (InRecord z) (sym (writes-entry z j scan i b)) (entry-in j h))
+  pub writes-in-record : (f : List ℕ) (j : Job) (scan : List ℕ) → length (j .about) ≡ 54 → (i : ℕ) → i < length (writesOf f z j scan)
+      → InRecord z (getD (writesOf f z j scan) i noWrite)
+  writes-in-record f j scan h i less =
+      phases (InRecord z (getD (writesOf f z j scan) i noWrite)) z j i (omega (arith, length-writes f z j scan))
+      (λ a. subst (InRecord z) (sym (writes-row f z j scan i a)) (record { from = omega arith; to = omega (arith, length-take (z .l) (drop (i * z .l) (paddedOf z j scan))) }))
+      (λ b. subst (InRecord z) (sym (writes-boot f z j scan i b)) (boot-in (sizesAfter f z j)))
+      (λ b. subst (InRecord z) (sym (writes-entry f z j scan i b)) (entry-in j h))
+      (λ b t. subst (InRecord z) (sym (writes-lower f z j scan i b t)) (boot-in (lowered f z)))

@@ -13,12 +13,12 @@ use Rattle.paper.specs.declared.job.Step.the-variants.{Wrote, Saved, Cle
 use Rattle.paper.specs.Sizes.{renewed}
 use Rattle.paper.specs.Index.{entryAt}
 use Rattle.paper.specs.Entry.{entryBytes}
-use Rattle.paper.specs.Store.{Write, perform, entryAfter, totalOf, writesOf}
+use Rattle.paper.specs.Store.{Write, perform, countOf, entryAfter, totalOf, writesOf}
 use Rattle.paper.specs.Step.{agrees, noWrite, writeAt, stepFile, placed, stepJob, stands, confirmOf, stepAnswer, Agreeing}
 use Rattle.paper.proofs.Opening.{sound-open}
 use Rattle.paper.proofs.Writes.{writes-past}
 use Rattle.paper.proofs.Agreement.{agreeing, step-file, job-head, job-past, answer-wrote, answer-past, standing}
-use Rattle.paper.proofs.Ready.{Ready, fileAt, file-start, file-next, along, end-stays, end-entry, end-rows}
+use Rattle.paper.proofs.Ready.{Ready, fileAt, file-start, file-next, along, end-stays, end-keeps, end-entry, end-rows}
 
 -- the job after i steps: its place in the list, and the file's first 32 bytes, on which it was begun or which it wrote
 abbrev pub jobAt : Sizes → List ℕ → List ℕ → Job → ℕ → Job
@@ -30,9 +30,9 @@ job-start {z} {f} {scan} {j} A h =
     rw (e, file-start f scan j, A .begun) (ap (λ (w : ℕ). placed j w (j .boot)) (sym h))
 
 -- the writes are those of the job as it was begun, and so is the entry, whatever D, U and the counter are
-writes-placed : (z : Sizes) (j : Job) (w : ℕ) (b scan : List ℕ) → writesOf z (placed j w b) scan ≡ writesOf z j scan
+writes-placed : (g : List ℕ) (z : Sizes) (j : Job) (w : ℕ) (b scan : List ℕ) → writesOf g z (placed j w b) scan ≡ writesOf g z j scan
 unfolding writesOf
-writes-placed z j w b scan = refl
+writes-placed g z j w b scan = refl
 
 entry-placed : (z : Sizes) (d u c : ℕ) (j : Job) (w : ℕ) (b : List ℕ) → entryAfter (renewed z d u c) (placed j w b) ≡ entryAfter z j
 unfolding entryBytes
@@ -72,12 +72,12 @@ module _ {z : Sizes} {f scan : List ℕ} {j : Job} (Y : Ready z f scan j) (A : A
       })
 
   -- the write of each step is the list's next
-  next-write : (i : ℕ) → writeAt (sizesAt i) scan (J i) ≡ getD (writesOf (sizesAt i) j scan) i noWrite
+  next-write : (i : ℕ) → writeAt (F i) (sizesAt i) scan (J i) ≡ getD (writesOf (F i) (sizesAt i) j scan) i noWrite
   next-write i =
       let y : Sizes = sizesAt i in
-      ap (λ (ws : List Write). getD ws (min i T) noWrite) (writes-placed y j (min i T) (take 32 (F i)) scan)
-      ∙ ⊎-elim (λ (h : i < T). ap (λ (n : ℕ). getD (writesOf y j scan) n noWrite) (omega arith))
-      (λ (h : T ≤ i). writes-past y j scan (min i T) (omega arith) ∙ sym (writes-past y j scan i h)) (lt-or-ge i T)
+      ap (λ (ws : List Write). getD ws (min i T) noWrite) (writes-placed (F i) y j (min i T) (take 32 (F i)) scan)
+      ∙ ⊎-elim (λ (h : i < T). ap (λ (n : ℕ). getD (writesOf (F i) y j scan) n noWrite) (omega arith))
+      (λ (h : T ≤ i). writes-past (F i) y j scan (min i T) (omega arith) ∙ sym (writes-past (F i) y j scan i h)) (lt-or-ge i T)
 
   -- ---- the file and the job after a step
 
@@ -103,11 +103,11 @@ module _ {z : Sizes} {f scan : List ℕ} {j : Job} (Y : Ready z f scan j) (A : A
 
   -- while a write is left: its record, and the count
   pub stage-wrote : (i : ℕ) → i < totalOf z j
-      → stepAnswer (fileAt f scan j i) scan (jobAt z f scan j i) ≡ Wrote (getD (writesOf (sizesAt i) j scan) i noWrite .record-no) (i + 1)
+      → stepAnswer (fileAt f scan j i) scan (jobAt z f scan j i) ≡ Wrote (getD (writesOf (fileAt f scan j i) (sizesAt i) j scan) i noWrite .record-no) (i + 1)
   stage-wrote i h =
       answer-wrote (F i) scan (J i) (sizesAt i) (at-agrees i) (along Y i .sound .booted .reads) (omega arith)
       ∙ ap (λ (w : Write). Wrote (w .record-no) (min i T + 1)) (next-write i)
-      ∙ ap (Wrote (getD (writesOf (sizesAt i) j scan) i noWrite .record-no)) (omega arith)
+      ∙ ap (Wrote (getD (writesOf (F i) (sizesAt i) j scan) i noWrite .record-no)) (omega arith)
 
   -- with none left: the file is judged, and the change confirmed
   pub stage-confirms : (i : ℕ) → totalOf z j ≤ i
@@ -116,9 +116,10 @@ module _ {z : Sizes} {f scan : List ℕ} {j : Job} (Y : Ready z f scan j) (A : A
       let a = along Y i in
       let y : Sizes = sizesAt i in
       let e : min i T ≡ T = omega arith in
+      let late : countOf z j + 2 ≤ i = omega arith in
       let entry : entryAt (F i) z (j .slot) ≡ entryAfter y (J i) =
-      ap (λ (g : List ℕ). entryAt g z (j .slot)) (end-stays Y i h) ∙ end-entry Y ∙ sym (entry-placed z (a .d) (a .u) (a .c) j (min i T) (take 32 (F i))) in
-      let s : stands (F i) scan (J i) y ≡ true = standing (F i) scan (J i) y (record { entry = entry; rows = rw (end-stays Y i h) (end-rows Y) }) in
+      end-keeps Y i late .entries (j .slot) (A .low) (A .high) ∙ end-entry Y ∙ sym (entry-placed z (a .d) (a .u) (a .c) j (min i T) (take 32 (F i))) in
+      let s : stands (F i) scan (J i) y ≡ true = standing (F i) scan (J i) y (record { entry = entry; rows = end-rows Y i late }) in
       answer-past (F i) scan (J i) y (at-agrees i) (a .sound .booted .reads) (omega arith)
       ∙ ap (confirmOf (F i) scan (J i)) (sound-open (a .sound))
       ∙ rw (s, e)

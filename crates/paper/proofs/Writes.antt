@@ -14,7 +14,7 @@ use Rattle.lent.proofs.Writes.{length-zeros, length-pad, pad-at}
 use Rattle.paper.specs.declared.sizes.Sizes.{Sizes}
 use Rattle.paper.specs.declared.job.Job.{Job}
 use Rattle.paper.specs.Sizes.{startOf}
-use Rattle.paper.specs.Store.{Write, recordsFor, countOf, paddedOf, dataFrom, dataWrites, bootWrite, entryWrite, totalOf, writesOf}
+use Rattle.paper.specs.Store.{Write, recordsFor, countOf, paddedOf, dataFrom, dataWrites, sizesWrite, bootWrite, entryWrite, lowersOf, lowered, lowerWrites, totalOf, writesOf}
 use Rattle.paper.specs.Step.{noWrite}
 use Rattle.paper.proofs.Sizing.{times}
 
@@ -47,46 +47,81 @@ data-at z (suc k) r bs (suc i) d h =
 
 -- ---- the whole list, by place
 
--- a list with two more at its end
-end-at : (ds : List Write) (a b : Write) (k i : ℕ) → length ds ≡ k → getD (ds ++ (a ∷ b ∷ [])) (k + i) noWrite ≡ getD (a ∷ b ∷ []) i noWrite
-end-at ds a b k i e =
-    subst (λ (n : ℕ). getD (ds ++ (a ∷ b ∷ [])) (n + i) noWrite ≡ getD (a ∷ b ∷ []) i noWrite) e (getD-append-add ds (a ∷ b ∷ []) i noWrite)
+-- what stands after the data records
+end-at : (ds es : List Write) (k i : ℕ) → length ds ≡ k → getD (ds ++ es) (k + i) noWrite ≡ getD es i noWrite
+end-at ds es k i e = subst (λ (n : ℕ). getD (ds ++ es) (n + i) noWrite ≡ getD es i noWrite) e (getD-append-add ds es i noWrite)
 
-module _ (z : Sizes) (j : Job) (scan : List ℕ) where
+-- one more, or none
+length-or : (t : Bool) (w : Write) → length (cond t (w ∷ []) []) ≡ cond t 1 0
+length-or true w = refl
+length-or false w = refl
+
+module _ (f : List ℕ) (z : Sizes) (j : Job) (scan : List ℕ) where
   pub length-rows : length (dataWrites z j scan) ≡ countOf z j
   length-rows = length-data z (j .first) (countOf z j) (paddedOf z j scan)
 
   -- as many as `totalOf` says
-  pub length-writes : length (writesOf z j scan) ≡ totalOf z j
+  pub length-writes : length (writesOf f z j scan) ≡ totalOf z j
   unfolding writesOf
-  length-writes = length-append (dataWrites z j scan) _ ∙ ap (λ (n : ℕ). n + 2) length-rows
+  length-writes =
+      let l = length-or (lowersOf j) (sizesWrite (lowered f z)) in
+      length-append (dataWrites z j scan) _ ∙ omega (arith, length-rows)
 
-  pub writes-data : (i : ℕ) → i < countOf z j → getD (writesOf z j scan) i noWrite ≡ getD (dataWrites z j scan) i noWrite
+  pub writes-data : (i : ℕ) → i < countOf z j → getD (writesOf f z j scan) i noWrite ≡ getD (dataWrites z j scan) i noWrite
   unfolding writesOf
   writes-data i h = List·getD-append (dataWrites z j scan) _ noWrite i (omega (arith, length-rows))
 
   pub writes-row : (i : ℕ) → i < countOf z j
-      → getD (writesOf z j scan) i noWrite
+      → getD (writesOf f z j scan) i noWrite
       ≡ record { at = startOf z (j .first + i); bytes = take (z .l) (drop (i * z .l) (paddedOf z j scan)); record-no = j .first + i }
   writes-row i h = writes-data i h ∙ data-at z (countOf z j) (j .first) (paddedOf z j scan) i noWrite h
 
-  pub writes-boot : (i : ℕ) → i ≡ countOf z j → getD (writesOf z j scan) i noWrite ≡ bootWrite z j
+  -- at place i after them
+  end-of : (k i : ℕ) → i ≡ countOf z j + k → getD (writesOf f z j scan) i noWrite ≡ getD (bootWrite f z j ∷ entryWrite z j ∷ lowerWrites f z j) k noWrite
   unfolding writesOf
-  writes-boot i e = let k : i ≡ countOf z j + 0 = omega arith in rw k (end-at (dataWrites z j scan) _ _ (countOf z j) 0 length-rows)
+  end-of k i e = rw e (end-at (dataWrites z j scan) _ (countOf z j) k length-rows)
 
-  pub writes-entry : (i : ℕ) → i ≡ countOf z j + 1 → getD (writesOf z j scan) i noWrite ≡ entryWrite z j
-  unfolding writesOf
-  writes-entry i e = rw e (end-at (dataWrites z j scan) _ _ (countOf z j) 1 length-rows)
+  pub writes-boot : (i : ℕ) → i ≡ countOf z j → getD (writesOf f z j scan) i noWrite ≡ bootWrite f z j
+  writes-boot i e = end-of 0 i (omega arith)
 
-  pub writes-past : (i : ℕ) → totalOf z j ≤ i → getD (writesOf z j scan) i noWrite ≡ noWrite
-  writes-past i h = List·getD-eq-default (writesOf z j scan) noWrite (omega (arith, length-writes))
+  pub writes-entry : (i : ℕ) → i ≡ countOf z j + 1 → getD (writesOf f z j scan) i noWrite ≡ entryWrite z j
+  writes-entry i e = end-of 1 i e
 
--- the place of a write that is left: a data record's, record 1's or the entry's
+  pub writes-lower : (i : ℕ) → i ≡ countOf z j + 2 → lowersOf j ≡ true → getD (writesOf f z j scan) i noWrite ≡ sizesWrite (lowered f z)
+  writes-lower i e t = end-of 2 i e ∙ ap (λ (b : Bool). getD (cond b (sizesWrite (lowered f z) ∷ []) []) 0 noWrite) t
+
+  pub writes-past : (i : ℕ) → totalOf z j ≤ i → getD (writesOf f z j scan) i noWrite ≡ noWrite
+  writes-past i h = List·getD-eq-default (writesOf f z j scan) noWrite (omega (arith, length-writes))
+
+-- how many in all, by whether U is lowered
+module _ (z : Sizes) (j : Job) where
+  pub total-plain : lowersOf j ≡ false → totalOf z j ≡ countOf z j + 2
+  total-plain t = omega (arith, ap (λ (b : Bool). cond {A = ℕ} b 1 0) t)
+
+  pub total-lowers : lowersOf j ≡ true → totalOf z j ≡ countOf z j + 3
+  total-lowers t = omega (arith, ap (λ (b : Bool). cond {A = ℕ} b 1 0) t)
+
+  pub total-most : totalOf z j ≤ countOf z j + 3
+  total-most = go (lowersOf j)
+    where
+      go : (t : Bool) → countOf z j + 2 + cond {A = ℕ} t 1 0 ≤ countOf z j + 3
+      go true = omega arith
+      go false = omega arith
+
+-- the place of a write that is left: a data record's, record 1's, the entry's or the lowered U's
 pub phases : (P : Type 0) (z : Sizes) (j : Job) (i : ℕ) → i < totalOf z j
-    → (i < countOf z j → P) → (i ≡ countOf z j → P) → (i ≡ countOf z j + 1 → P) → P
-phases P z j i h row boot entry =
-    ⊎-elim row (λ (a : countOf z j ≤ i). ⊎-elim (λ (b : i < countOf z j + 1). boot (omega arith)) (λ (b : countOf z j + 1 ≤ i). entry (omega arith)) (lt-or-ge i (countOf z j + 1)))
+    → (i < countOf z j → P) → (i ≡ countOf z j → P) → (i ≡ countOf z j + 1 → P) → (i ≡ countOf z j + 2 → lowersOf j ≡ true → P) → P
+phases P z j i h row boot entry lower =
+    ⊎-elim row
+    (λ (a : countOf z j ≤ i).
+    ⊎-elim (λ (b : i < countOf z j + 1). boot (omega arith))
+    (λ (b : countOf z j + 1 ≤ i). ⊎-elim (λ (c : i < countOf z j + 2). entry (omega arith)) (λ (c : countOf z j + 2 ≤ i). last (lowersOf j) refl h c) (lt-or-ge i (countOf z j + 2)))
+    (lt-or-ge i (countOf z j + 1)))
     (lt-or-ge i (countOf z j))
+  where
+    last : (t : Bool) → lowersOf j ≡ t → i < countOf z j + 2 + cond t 1 0 → countOf z j + 2 ≤ i → P
+    last true e l c = lower (omega arith) e
+    last false e l c = absurd (omega arith)
 
 -- only a save has data records
 pub row-saves : (z : Sizes) (j : Job) → 0 < countOf z j → j .saves ≡ true

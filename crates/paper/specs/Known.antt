@@ -1,7 +1,7 @@
 -- Known answers: numbers and bytes of 01 and 02 written out, each against one definition; `at-most` alone names another, the list that is printed.
 use Prim.Native.Nat.{ℕ, _-_}
 use mathlib.Core.Path.{_≡_}
-use mathlib.Core.Bool.{true, false}
+use mathlib.Core.Bool.{Bool, true, false}
 use mathlib.Core.List.{List, [], _∷_, _++_}
 use lib.Ieee.{Float, binary32, binary64, ofBits}
 use lib.IntN.{pos, negsuc}
@@ -30,7 +30,7 @@ use Rattle.paper.specs.Index.{indexOf, openOf}
 use Rattle.paper.specs.Entry.{kindOf, magicOf, versionOne, fieldsOf, noEntry, entryBytes}
 use Rattle.paper.specs.Scan.{classesOf, startsOf, rule1, ruledOf, classOf, dataOf, partOf, spanPlace}
 use Rattle.paper.specs.Look.{listedOf, listedOut, foundOf, showOf, readOf}
-use Rattle.paper.specs.Store.{blankSizes, freePlace, emptySlot, noJob, saveOf, keepOf, clearOf, sizesAfter}
+use Rattle.paper.specs.Store.{blankSizes, freePlace, emptySlot, highest, noJob, saveOf, keepOf, clearOf, usedAfter, sizesAfter, lowered, totalOf, writesOf}
 use Rattle.paper.specs.Step.{agrees, noWrite, stands, isConfirmed}
 use Rattle.paper.specs.Convert.{Carried, bootAs, scanAs, entryAs, wideRun, formChecks, convertOf, convertedOut, joined}
 use Rattle.paper.specs.Lister.{decimal, printed, listText}
@@ -351,11 +351,20 @@ pub record Parts : Type 0 where
 -- a save of scan13 to slot 4 of that file, at its only place, with these numbers
 abbrev pub jobWith : ℕ → ℕ → ℕ → ℕ → ℕ → Job
 jobWith slot size span first written =
-    record { saves = true; slot = slot; size = size; span = span; first = first; written = written; boot = take 32 fileBoot; about = bytes54 }
+    record { saves = true; slot = slot; size = size; span = span; first = first; written = written; lowers = false; boot = take 32 fileBoot; about = bytes54 }
 
--- a clear of that slot
+-- a clear of that slot, which does not lower U or does
+abbrev pub clearsWith : Bool → ℕ → ℕ → List ℕ → Job
+clearsWith lowers slot written boot =
+    record { saves = false; slot = slot; size = 0; span = 2560; first = 0; written = written; lowers = lowers; boot = boot; about = [] }
+
 abbrev pub clearWith : ℕ → ℕ → List ℕ → Job
-clearWith slot written boot = record { saves = false; slot = slot; size = 0; span = 2560; first = 0; written = written; boot = boot; about = [] }
+clearWith slot written boot = clearsWith false slot written boot
+
+-- the same save as if it lowered U
+abbrev pub jobLowers : ℕ → Job
+jobLowers written =
+    record { saves = true; slot = 4; size = 308; span = 2560; first = 5; written = written; lowers = true; boot = take 32 fileBoot; about = bytes54 }
 
 -- "A step checks 14 first": each cause by itself
 pub record Agrees : Type 0 where
@@ -366,7 +375,7 @@ pub record Agrees : Type 0 where
   pub other-length : agrees file scan13 (jobWith 4 308 2561 5 0) ≡ false
   pub other-boot : agrees file [] (clearWith 4 0 (1 ∷ drop 1 (take 32 fileBoot))) ≡ false
   pub bad-boot : agrees (write file 31 (2 ∷ [])) [] (clearWith 4 0 (take 31 fileBoot ++ (2 ∷ []))) ≡ false
-  pub no-file : agrees [] [] (record { saves = false; slot = 0; size = 0; span = 0; first = 0; written = 0; boot = []; about = [] }) ≡ false
+  pub no-file : agrees [] [] (record { saves = false; slot = 0; size = 0; span = 0; first = 0; written = 0; lowers = false; boot = []; about = [] }) ≡ false
   pub no-scan : agrees file [] (jobWith 4 0 2560 5 0) ≡ false
   pub slot-0 : agrees file scan13 (jobWith 0 308 2560 5 0) ≡ false
   pub slot-5 : agrees file scan13 (jobWith 5 308 2560 5 0) ≡ false
@@ -375,10 +384,15 @@ pub record Agrees : Type 0 where
   pub too-many : agrees file scan13 (jobWith 4 308 2560 5 4) ≡ false
   pub clear : agrees file [] (clearWith 4 2 (take 32 fileBoot)) ≡ true
   pub clear-too-many : agrees file [] (clearWith 4 3 (take 32 fileBoot)) ≡ false
+  -- 02, 2026-04: "gets a third write"; "of a save 0 and 1 are not told apart"
+  pub third : agrees file [] (clearsWith true 4 3 (take 32 fileBoot)) ≡ true
+  pub third-too-many : agrees file [] (clearsWith true 4 4 (take 32 fileBoot)) ≡ false
+  pub save-lowers : agrees file scan13 (jobLowers 3) ≡ true
+  pub save-lowers-too-many : agrees file scan13 (jobLowers 4) ≡ false
 
 -- record 5 is slot 3's: 512 zeros, and an entry of zeros from byte 8 on
 abbrev pub confirming : List ℕ → ℕ → ℕ → Job
-confirming about size first = record { saves = true; slot = 3; size = size; span = 2560; first = first; written = 3; boot = []; about = about }
+confirming about size first = record { saves = true; slot = 3; size = size; span = 2560; first = first; written = 3; lowers = false; boot = []; about = about }
 
 -- "compares the entry's M bytes and the k records, padding included"
 pub record Stands : Type 0 where
@@ -387,7 +401,7 @@ pub record Stands : Type 0 where
   pub other-byte : stands file (replicate 511 0 ++ (1 ∷ [])) (confirming (replicate 54 0) 512 5) fileSizes ≡ false
   pub other-entry : stands file (replicate 512 0) (confirming (replicate 53 0 ++ (1 ∷ [])) 512 5) fileSizes ≡ false
   pub other-place : stands file (replicate 512 0) (confirming (replicate 54 0) 512 4) fileSizes ≡ false
-  pub not-cleared : stands file [] (record { saves = false; slot = 3; size = 0; span = 2560; first = 0; written = 2; boot = []; about = [] }) fileSizes ≡ false
+  pub not-cleared : stands file [] (clearWith 3 2 []) fileSizes ≡ false
   pub cleared : stands file [] (clearWith 4 2 []) fileSizes ≡ true
 
 -- ---- an old file
@@ -504,27 +518,54 @@ pub record Conversions : Type 0 where
 -- ---- the counter and record 1
 
 abbrev pub saveJob : Job
-saveJob = record { saves = true; slot = 5; size = 1000; span = 0; first = 40; written = 0; boot = []; about = [] }
+saveJob = record { saves = true; slot = 5; size = 1000; span = 0; first = 40; written = 0; lowers = false; boot = []; about = [] }
 
-abbrev pub clearJob : Job
-clearJob = record { saves = false; slot = 5; size = 0; span = 0; first = 0; written = 0; boot = []; about = [] }
+abbrev pub clearJob : ℕ → Job
+clearJob slot = record { saves = false; slot = slot; size = 0; span = 0; first = 0; written = 0; lowers = false; boot = []; about = [] }
 
 pub record Renewed : Type 0 where
   -- "D = U = counter = type = 0"
   pub blank : blankSizes 3 512 64 ≡ record { n = 3; d = 0; l = 512; m = 64; u = 0; counter = 0; kind = 0; version = 1 }
-  -- D = 40 + 2 - 1 - 3, U = 5, the counter one higher
-  pub raised : sizesAfter (record { n = 3; d = 9; l = 512; m = 64; u = 4; counter = 7; kind = 1; version = 1 }) saveJob ≡ record { n = 3; d = 38; l = 512; m = 64; u = 5; counter = 8; kind = 1; version = 1 }
-  pub as-it-was : sizesAfter (record { n = 3; d = 90; l = 512; m = 64; u = 6; counter = 7; kind = 0; version = 1 }) saveJob ≡ record { n = 3; d = 90; l = 512; m = 64; u = 6; counter = 8; kind = 0; version = 1 }
-  pub cleared : sizesAfter (record { n = 3; d = 9; l = 512; m = 64; u = 4; counter = 7; kind = 0; version = 1 }) clearJob ≡ record { n = 3; d = 9; l = 512; m = 64; u = 4; counter = 8; kind = 0; version = 1 }
+  -- D = 40 + 2 - 1 - 3, U = 5, the counter one higher, in a file without scans
+  pub raised : sizesAfter [] (record { n = 3; d = 9; l = 512; m = 64; u = 4; counter = 7; kind = 1; version = 1 }) saveJob ≡ record { n = 3; d = 38; l = 512; m = 64; u = 5; counter = 8; kind = 1; version = 1 }
+  pub as-it-was : sizesAfter [] (record { n = 3; d = 90; l = 512; m = 64; u = 6; counter = 7; kind = 0; version = 1 }) saveJob ≡ record { n = 3; d = 90; l = 512; m = 64; u = 5; counter = 8; kind = 0; version = 1 }
+  pub cleared : sizesAfter [] (record { n = 3; d = 9; l = 512; m = 64; u = 4; counter = 7; kind = 0; version = 1 }) (clearJob 2) ≡ record { n = 3; d = 9; l = 512; m = 64; u = 2; counter = 8; kind = 0; version = 1 }
   -- "after all ones comes zero"
-  pub all-ones : sizesAfter fileSizes clearJob ≡ record { n = 2; d = 3; l = 512; m = 128; u = 4; counter = 0; kind = 1; version = 1 }
+  pub all-ones : sizesAfter file fileSizes (clearJob 3) ≡ record { n = 2; d = 3; l = 512; m = 128; u = 3; counter = 0; kind = 1; version = 1 }
+
+-- 02, 2026-04: the used number. That file has scans in slots 1 to 3 and a U of 4, which is too high
+pub record UsedNumber : Type 0 where
+  pub highest-3 : highest file fileSizes ≡ 3
+  -- "also above U"; an entry with one of the two numbers is not empty
+  pub above-use : highest file (record { n = 2; d = 3; l = 512; m = 128; u = 1; counter = 0; kind = 1; version = 1 }) ≡ 3
+  pub last-alone : highest (write file 903 (7 ∷ [])) fileSizes ≡ 4
+  pub first-alone : highest (write file 899 (7 ∷ [])) fileSizes ≡ 4
+  pub gap : highest (write file 768 (replicate 8 0)) fileSizes ≡ 2
+  pub none : highest (write file 512 (replicate 512 0)) fileSizes ≡ 0
+  -- "the one being saved or cleared counted"
+  pub saved-4 : usedAfter file fileSizes (jobWith 4 308 2560 5 0) ≡ 4
+  pub saved-2 : usedAfter file fileSizes (jobWith 2 308 2560 5 0) ≡ 3
+  pub cleared-3 : usedAfter (write file 768 (replicate 8 0)) fileSizes (clearWith 3 0 []) ≡ 3
+  -- "A clear of that highest slot"; never a save
+  pub lowers-3 : clearOf file 3 .job .lowers ≡ true
+  pub lowers-1 : clearOf file 1 .job .lowers ≡ false
+  pub taken-3 : saveOf (write file 768 (replicate 8 0)) 3 scan13 bytes54 .job .slot ≡ 3
+  pub never-3 : saveOf (write file 768 (replicate 8 0)) 3 scan13 bytes54 .job .lowers ≡ false
+  -- "record 1 again with U lowered to what is left, or 0; its counter isn't raised twice"
+  pub lowered-2 : lowered (write file 768 (replicate 8 0)) fileSizes ≡ record { n = 2; d = 3; l = 512; m = 128; u = 2; counter = 4294967295; kind = 1; version = 1 }
+  pub lowered-0 : lowered (write file 512 (replicate 512 0)) fileSizes ≡ record { n = 2; d = 3; l = 512; m = 128; u = 0; counter = 4294967295; kind = 1; version = 1 }
+  -- "a third write", and none of a save
+  pub three : totalOf fileSizes (clearsWith true 3 0 []) ≡ 3
+  pub two : totalOf fileSizes (clearWith 3 0 []) ≡ 2
+  pub of-a-save : totalOf fileSizes (jobLowers 0) ≡ 3
+  pub third-is : getD (writesOf file fileSizes (clearsWith true 3 0 []) []) 2 noWrite ≡ record { at = 0; bytes = bootBytes (record { n = 2; d = 3; l = 512; m = 128; u = 3; counter = 4294967295; kind = 1; version = 1 }); record-no = 1 }
 
 -- ---- zeros
 
 pub record Zeros : Type 0 where
   -- "writes nothing (record 0)"
   pub write-none : noWrite ≡ record { at = 0; bytes = []; record-no = 0 }
-  pub job : noJob ≡ record { saves = false; slot = 0; size = 0; span = 0; first = 0; written = 0; boot = replicate 32 0; about = replicate 54 0 }
+  pub job : noJob ≡ record { saves = false; slot = 0; size = 0; span = 0; first = 0; written = 0; lowers = false; boot = replicate 32 0; about = replicate 54 0 }
   pub entry : noEntry ≡ record { first = 0; last = 0; horizontal = 0; vertical = 0; source = replicate 16 0; scan = 0; field4 = 0; field8 = 0; lst = 0; date = 0; mode = pos 0; number = pos 0; position = pos 0; magic = pos 0; kind = Other (ofBits binary32 0) (ofBits binary64 0) }
 
 -- ---- the lister

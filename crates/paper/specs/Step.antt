@@ -50,8 +50,8 @@ abbrev pub noWrite : Write
 noWrite = record { at = 0; bytes = []; record-no = 0 }
 
 -- the write at the job's place in its list
-abbrev pub writeAt : Sizes → List ℕ → Job → Write
-writeAt z scan j = getD (writesOf z j scan) (j .written) noWrite
+abbrev pub writeAt : List ℕ → Sizes → List ℕ → Job → Write
+writeAt f z scan j = getD (writesOf f z j scan) (j .written) noWrite
 
 -- a write is left
 abbrev pub hasLeft : Sizes → Job → Bool
@@ -59,19 +59,19 @@ hasLeft z j = ltb (j .written) (totalOf z j)
 
 -- "Each step writes at most one record"
 unfoldable pub stepFile : List ℕ → List ℕ → Job → List ℕ
-stepFile f scan j = cond (agrees f scan j) (perform f (writeAt (sizesOf f) scan j)) f
+stepFile f scan j = cond (agrees f scan j) (perform f (writeAt f (sizesOf f) scan j)) f
 
 -- the job at another place of its list, expecting these 32 bytes
 abbrev pub placed : Job → ℕ → List ℕ → Job
 placed j w b =
-    record { saves = j .saves; slot = j .slot; size = j .size; span = j .span; first = j .first; written = w; boot = b; about = j .about }
+    record { saves = j .saves; slot = j .slot; size = j .size; span = j .span; first = j .first; written = w; lowers = j .lowers; boot = b; about = j .about }
 
 -- the job one write on; where this write was record 1's, it then expects the bootstrap that it wrote
 abbrev pub moved : Write → Job → Job
 moved w j = placed j (j .written + 1) (cond (eqb (w .record-no) 1) (w .bytes) (j .boot))
 
 unfoldable pub stepJob : List ℕ → List ℕ → Job → Job
-stepJob f scan j = cond (agrees f scan j) (cond (hasLeft (sizesOf f) j) (moved (writeAt (sizesOf f) scan j) j) j) j
+stepJob f scan j = cond (agrees f scan j) (cond (hasLeft (sizesOf f) j) (moved (writeAt f (sizesOf f) scan j) j) j) j
 
 -- "compares the entry's M bytes and the k records, padding included, with what the job and the scan give"
 abbrev pub standTests : List ℕ → List ℕ → Job → Sizes → List Bool
@@ -100,12 +100,12 @@ confirmOf f scan j (opened.Refused r) = Refused r
 confirmOf f scan j (opened.Opens z) = cond (stands f scan j z) (confirmed j) (Refused Differs)
 
 -- "The answer to a step says which record it wrote and how many records it has written so far"
-abbrev pub wroteOf : Sizes → List ℕ → Job → Step
-wroteOf z scan j = Wrote (writeAt z scan j .record-no) (j .written + 1)
+abbrev pub wroteOf : List ℕ → Sizes → List ℕ → Job → Step
+wroteOf f z scan j = Wrote (writeAt f z scan j .record-no) (j .written + 1)
 
 unfoldable pub stepAnswer : List ℕ → List ℕ → Job → Step
 stepAnswer f scan j =
-    cond (agrees f scan j) (cond (hasLeft (sizesOf f) j) (wroteOf (sizesOf f) scan j) (confirmOf f scan j (openOf f))) (Refused Disagrees)
+    cond (agrees f scan j) (cond (hasLeft (sizesOf f) j) (wroteOf f (sizesOf f) scan j) (confirmOf f scan j (openOf f))) (Refused Disagrees)
 
 unfoldable pub steppedOf : List ℕ → List ℕ → Job → Stepped
 steppedOf f scan j = record { answer = stepAnswer f scan j; job = stepJob f scan j }

@@ -6,6 +6,7 @@ use lib.Dec.{ltb, leb, eqb}
 use lib.ListN.{length, take, drop, replicate}
 use Rattle.lent.specs.Lists.{all}
 use Rattle.lent.specs.Least.{least}
+use Rattle.lent.specs.Greatest.{greatest}
 use Rattle.lent.specs.Checks.{Check, check, judge}
 use Rattle.lent.specs.Write.{write, zeros, pad}
 use Rattle.paper.specs.declared.sizes.Sizes.{Sizes}
@@ -74,9 +75,13 @@ freePlace z len run k = least (freeAt z len run k) (roomOf z len)
 unfoldable pub emptySlot : Sizes → (ℕ → Run) → ℕ
 emptySlot z run = least (λ s. empty (run s)) (capacityOf z)
 
+-- 02, 2026-04: "the highest slot with a scan", or 0: of all slots, those above U too
+abbrev pub highest : List ℕ → Sizes → ℕ
+highest f z = greatest (λ s. not (empty (runOf f z s))) (capacityOf z)
+
 -- "a job of zeros"
 abbrev pub noJob : Job
-noJob = record { saves = false; slot = 0; size = 0; span = 0; first = 0; written = 0; boot = replicate 32 0; about = replicate 54 0 }
+noJob = record { saves = false; slot = 0; size = 0; span = 0; first = 0; written = 0; lowers = false; boot = replicate 32 0; about = replicate 54 0 }
 
 abbrev pub refused : Refusal → Begun
 refused r = record { answer = Refused r; job = noJob }
@@ -91,15 +96,25 @@ placeFor f size = freePlace (sizesOf f) (length f) (runOf f (sizesOf f)) (record
 -- a save's job, at the place r
 abbrev pub savesAt : List ℕ → ℕ → List ℕ → List ℕ → ℕ → Job
 savesAt f slot scan about r =
-    record { saves = true; slot = slot; size = length scan; span = length f; first = r; written = 0; boot = take 32 f; about = about }
+    record { saves = true; slot = slot; size = length scan; span = length f; first = r; written = 0; lowers = false; boot = take 32 f; about = about }
 
 abbrev pub saveJob : List ℕ → ℕ → List ℕ → List ℕ → Job
 saveJob f slot scan about = savesAt f slot scan about (placeFor f (length scan))
 
--- "is lent an empty scan"
+-- "is lent an empty scan"; it lowers U where it is "a clear of that highest slot"
 abbrev pub clearJob : List ℕ → ℕ → Job
 clearJob f slot =
-    record { saves = false; slot = slot; size = 0; span = length f; first = 0; written = 0; boot = take 32 f; about = replicate 54 0 }
+    record {
+      saves = false;
+      slot = slot;
+      size = 0;
+      span = length f;
+      first = 0;
+      written = 0;
+      lowers = eqb slot (highest f (sizesOf f));
+      boot = take 32 f;
+      about = replicate 54 0;
+    }
 
 -- the number of the rule that a scan to be saved breaks, or 0
 abbrev pub reasonOf : Ruled → ℕ
@@ -156,22 +171,27 @@ dataFrom z r (suc k) bytes =
 abbrev pub dataWrites : Sizes → Job → List ℕ → List Write
 dataWrites z j scan = dataFrom z (j .first) (countOf z j) (paddedOf z j scan)
 
--- "record 1 with D = max(D, r+k-1-N), U = max(U, slot) and the counter one higher"; a clear changes the "counter only"
+-- "record 1 with D = max(D, r+k-1-N), .. and the counter one higher"; a clear leaves D
 abbrev pub dataAfter : Sizes → Job → ℕ
 dataAfter z j = cond (j .saves) (max (z .d) (j .first + countOf z j - 1 - z .n)) (z .d)
 
-abbrev pub usedAfter : Sizes → Job → ℕ
-usedAfter z j = cond (j .saves) (max (z .u) (j .slot)) (z .u)
+-- 02, 2026-04: "U to the highest slot with a scan, the one being saved or cleared counted"
+abbrev pub usedAfter : List ℕ → Sizes → Job → ℕ
+usedAfter f z j = max (highest f z) (j .slot)
 
 -- "32 plain bits; after all ones comes zero"
 abbrev pub counterAfter : Sizes → ℕ
 counterAfter z = (z .counter + 1) % 4294967296
 
-abbrev pub sizesAfter : Sizes → Job → Sizes
-sizesAfter z j = renewed z (dataAfter z j) (usedAfter z j) (counterAfter z)
+abbrev pub sizesAfter : List ℕ → Sizes → Job → Sizes
+sizesAfter f z j = renewed z (dataAfter z j) (usedAfter f z j) (counterAfter z)
 
-abbrev pub bootWrite : Sizes → Job → Write
-bootWrite z j = record { at = 0; bytes = bootBytes (sizesAfter z j); record-no = 1 }
+-- record 1 as it stands in the file, with these sizes
+abbrev pub sizesWrite : Sizes → Write
+sizesWrite y = record { at = 0; bytes = bootBytes y; record-no = 1 }
+
+abbrev pub bootWrite : List ℕ → Sizes → Job → Write
+bootWrite f z j = sizesWrite (sizesAfter f z j)
 
 -- "then the slot's entry in its index record"; of a clear "M zeros as the entry"
 abbrev pub entryAfter : Sizes → Job → List ℕ
@@ -180,10 +200,21 @@ entryAfter z j = cond (j .saves) (entryBytes z (runFrom (j .first) (countOf z j)
 abbrev pub entryWrite : Sizes → Job → Write
 entryWrite z j = record { at = homeOf z (j .slot); bytes = entryAfter z j; record-no = recordOf z (j .slot) }
 
+-- "A clear of that highest slot gets a third write"; a save has none, whatever its job says
+abbrev pub lowersOf : Job → Bool
+lowersOf j = cond (j .saves) false (j .lowers)
+
+-- "record 1 again with U lowered to what is left, or 0; its counter isn't raised twice"
+abbrev pub lowered : List ℕ → Sizes → Sizes
+lowered f z = renewed z (z .d) (highest f z) (z .counter)
+
+abbrev pub lowerWrites : List ℕ → Sizes → Job → List Write
+lowerWrites f z j = cond (lowersOf j) (sizesWrite (lowered f z) ∷ []) []
+
 -- how many writes: from the job and the sizes that no write changes, never from the file as it stands
 abbrev pub totalOf : Sizes → Job → ℕ
-totalOf z j = countOf z j + 2
+totalOf z j = countOf z j + 2 + cond (lowersOf j) 1 0
 
--- "the k data records .., then record 1 .., then the slot's entry"
-unfoldable pub writesOf : Sizes → Job → List ℕ → List Write
-writesOf z j scan = dataWrites z j scan ++ (bootWrite z j ∷ entryWrite z j ∷ [])
+-- "the k data records .., then record 1 .., then the slot's entry", and then the lowered U; each as the file f with the sizes z has it when its turn comes
+unfoldable pub writesOf : List ℕ → Sizes → Job → List ℕ → List Write
+writesOf f z j scan = dataWrites z j scan ++ (bootWrite f z j ∷ entryWrite z j ∷ lowerWrites f z j)

@@ -5,6 +5,8 @@ use super::refusal::Refusal;
 pub struct Job {
     // A save or a keep; a clear where false.
     pub saves: bool,
+    // A clear of the highest slot with a scan: U is then lowered by a third write. Of a save it is not looked at.
+    pub lowers: bool,
     pub slot: usize,
     // The scan's length and the file's.
     pub size: usize,

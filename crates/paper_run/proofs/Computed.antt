@@ -4,6 +4,7 @@ use lib.Ieee.{ofBits}
 use Rattle.lent.specs.Number.{number, value, digit, bytes, numbers, int16}
 use Rattle.lent.specs.Lists.{table, every, those}
 use Rattle.lent.specs.Least.{least}
+use Rattle.lent.specs.Greatest.{greatest}
 use Rattle.lent.specs.Write.{write, zeros, pad}
 use Rattle.lent.specs.Same.{same}
 use Rattle.whole.specs.Number.{exactly, wholeFloat, wholeOf}
@@ -13,19 +14,19 @@ use Rattle.paper.specs.Index.{empty, inData, badAt, aboveAt, shares, sharer, sh
 use Rattle.paper.specs.Entry.{versionOne, entryBytes}
 use Rattle.paper.specs.Scan.{classesOf, startsOf, rule1, rule2, rule3, rule4, rule5, rule6, rising, ruledOf}
 use Rattle.paper.specs.Look.{readOf}
-use Rattle.paper.specs.Store.{blankFile, blankOf, freeAt, freePlace, saveOf, dataFrom, writesOf}
+use Rattle.paper.specs.Store.{blankFile, blankOf, freeAt, freePlace, saveOf, clearOf, dataFrom, writesOf}
 use Rattle.paper.specs.Step.{agrees, stepFile, stepJob, stands, stepAnswer}
 use Rattle.paper.specs.Lister.{digits, linesText, listText}
 use Rattle.paper_run.specs.Scans.{preamble, double, scanOf}
-use Rattle.paper_run.specs.Files.{file0, file1, file2, file3, file4, broken}
-use Rattle.paper_run.specs.Run.{Run, Kept}
+use Rattle.paper_run.specs.Files.{file0, file1, file2, file3, file4, file5, broken}
+use Rattle.paper_run.specs.Run.{Run, Lowered, Kept}
 
 pub kept : Kept
 unfolding number value int16 table every exactly wholeFloat wholeOf ofBits lengthOf isWhole sizeOf classesOf startsOf rule1 rule2 rule3 rule4 rule5 rule6 rising ruledOf preamble double scanOf
 kept = record { first = refl; second = refl; third = refl; fourth = refl; fifth = refl }
 
 pub run : Run
-unfolding number value digit bytes numbers int16 table every those least write zeros pad same exactly wholeFloat wholeOf ofBits lengthOf isWhole sizeOf wordAt counterOf typeOf bootBytes shaped inRange empty inData badAt aboveAt shares sharer sharedAt openOf slotsOf versionOne entryBytes classesOf startsOf rule1 rule2 rule3 rule4 rule5 rule6 rising ruledOf readOf blankFile blankOf freeAt freePlace saveOf dataFrom writesOf agrees stepFile stepJob stands stepAnswer digits linesText listText preamble double scanOf file0 file1 file2 file3 file4 broken
+unfolding number value digit bytes numbers int16 table every those least greatest write zeros pad same exactly wholeFloat wholeOf ofBits lengthOf isWhole sizeOf wordAt counterOf typeOf bootBytes shaped inRange empty inData badAt aboveAt shares sharer sharedAt openOf slotsOf versionOne entryBytes classesOf startsOf rule1 rule2 rule3 rule4 rule5 rule6 rising ruledOf readOf blankFile blankOf freeAt freePlace saveOf dataFrom writesOf agrees stepFile stepJob stands stepAnswer digits linesText listText preamble double scanOf file0 file1 file2 file3 file4 broken
 run =
     record {
       blanked = refl;
@@ -41,4 +42,18 @@ run =
       read-9 = refl;
       fourth-save = refl;
       no-room = refl;
+    }
+
+pub lowered : Lowered
+unfolding number value digit bytes numbers int16 table every least greatest write zeros pad same exactly wholeFloat wholeOf ofBits lengthOf isWhole sizeOf wordAt counterOf typeOf bootBytes shaped inRange empty inData badAt aboveAt shares sharer sharedAt openOf versionOne entryBytes classesOf startsOf rule1 rule2 rule3 rule4 rule5 rule6 rising ruledOf blankFile freeAt freePlace saveOf clearOf dataFrom writesOf agrees stepFile stepJob stands stepAnswer preamble double scanOf file0 file1 file2 file3 file5
+lowered =
+    record {
+      highest-clear = refl;
+      lowered = refl;
+      last-clear = refl;
+      none-left = refl;
+      other-clear = refl;
+      still-9 = refl;
+      cut = refl;
+      mended = refl;
     }

@@ -5,7 +5,7 @@ use lib.ListN.{replicate}
 use Rattle.lent.specs.Write.{write}
 use Rattle.paper.specs.declared.job.Job.{Job}
 use Rattle.paper.specs.declared.job.Step.{Step}
-use Rattle.paper.specs.Store.{blankFile, saveOf}
+use Rattle.paper.specs.Store.{blankFile, saveOf, clearOf}
 use Rattle.paper.specs.Step.{stepAnswer, stepFile, stepJob}
 use Rattle.paper_run.specs.Scans.{scan1, scan2, scan3, scan4}
 
@@ -28,6 +28,13 @@ saving n f slot scan = answers n f scan (saveOf f slot scan about .job)
 
 abbrev pub saved : ℕ → List ℕ → ℕ → List ℕ → List ℕ
 saved n f slot scan = after n f scan (saveOf f slot scan about .job)
+
+-- the same of a clear
+abbrev pub clearing : ℕ → List ℕ → ℕ → List Step
+clearing n f slot = answers n f [] (clearOf f slot .job)
+
+abbrev pub cleared : ℕ → List ℕ → ℕ → List ℕ
+cleared n f slot = after n f [] (clearOf f slot .job)
 
 -- 4,096 bytes, of which blank leaves those past record 3
 abbrev pub lent : List ℕ
@@ -52,6 +59,10 @@ file3 = saved 5 file2 1 scan3
 -- "Next, 1,024 bytes to slot 2"
 unfoldable pub file4 : List ℕ
 file4 = saved 5 file3 2 scan4
+
+-- file 3 with slot 9, its highest, cleared
+unfoldable pub file5 : List ℕ
+file5 = cleared 4 file3 9
 
 -- file 0 with U = 3 and an entry for slot 3 that names record 1
 unfoldable pub broken : List ℕ

@@ -5,16 +5,18 @@ use mathlib.Core.Bool.{true}
 use mathlib.Core.List.{List, [], _∷_}
 use lib.ListN.{length}
 use Rattle.paper.specs.declared.answer.Ruled.the-variants.{Keeps}
+use Rattle.paper.specs.declared.answer.Opened.the-variants.{Opens}
 use Rattle.paper.specs.declared.answer.Taken.the-variants.{Accepted}
-use Rattle.paper.specs.declared.job.Step.the-variants.{Wrote, Saved}
+use Rattle.paper.specs.declared.job.Step.the-variants.{Wrote, Saved, Cleared}
 use Rattle.paper.specs.Refusals.{takenSays}
 use Rattle.paper.specs.Sizes.{sizesOf, capacityOf, roomOf}
+use Rattle.paper.specs.Index.{openOf}
 use Rattle.paper.specs.Scan.{ruledOf, partOf}
 use Rattle.paper.specs.Look.{readOf}
 use Rattle.paper.specs.Store.{blankOf, saveOf}
 use Rattle.paper.specs.Lister.{listText}
 use Rattle.paper_run.specs.Scans.{scan1, scan2, scan3, scan4, scan5}
-use Rattle.paper_run.specs.Files.{saving, about, lent, file0, file1, file2, file3, file4, broken}
+use Rattle.paper_run.specs.Files.{saving, saved, clearing, cleared, about, lent, file0, file1, file2, file3, file4, file5, broken}
 
 -- "slots 16 used 9 scans 2", "1 7 8" and "9 6 6", each with its newline
 abbrev pub threeLines : List ℕ
@@ -53,6 +55,22 @@ pub record Run : Type 0 where
   pub fourth-save : saving 5 file3 2 scan4 ≡ Wrote 4 1 ∷ Wrote 5 2 ∷ Wrote 1 3 ∷ Wrote 2 4 ∷ Saved 0 4 ∷ []
   -- "then 512 bytes to slot 3 get 13"
   pub no-room : takenSays (saveOf file4 3 scan5 about .answer) .number ≡ 13
+
+-- 02, 2026-04, on the file that the lister printed: scans in slots 1 and 9, U 9, and a counter of 3
+pub record Lowered : Type 0 where
+  -- "A clear of that highest slot gets a third write .. Such a clear is confirmed at step 4"
+  pub highest-clear : clearing 4 file3 9 ≡ Wrote 1 1 ∷ Wrote 3 2 ∷ Wrote 1 3 ∷ Cleared 0 3 ∷ []
+  -- "U lowered to what is left .. its counter isn't raised twice"
+  pub lowered : sizesOf file5 ≡ record { n = 3; d = 5; l = 512; m = 64; u = 1; counter = 4; kind = 0; version = 1 }
+  -- "or 0"
+  pub last-clear : clearing 4 file5 1 ≡ Wrote 1 1 ∷ Wrote 2 2 ∷ Wrote 1 3 ∷ Cleared 0 3 ∷ []
+  pub none-left : sizesOf (cleared 4 file5 1) ≡ record { n = 3; d = 5; l = 512; m = 64; u = 0; counter = 5; kind = 0; version = 1 }
+  -- any other clear: two writes, confirmed at step 3
+  pub other-clear : clearing 3 file3 1 ≡ Wrote 1 1 ∷ Wrote 2 2 ∷ Cleared 0 2 ∷ []
+  pub still-9 : sizesOf (cleared 3 file3 1) .u ≡ 9
+  -- "Open still accepts a U too high, as after a cut": after the index write U is 9 yet, and the next save sets it right
+  pub cut : openOf (cleared 2 file3 9) ≡ Opens (record { n = 3; d = 5; l = 512; m = 64; u = 9; counter = 4; kind = 0; version = 1 })
+  pub mended : sizesOf (saved 4 (cleared 2 file3 9) 3 scan2) .u ≡ 3
 
 -- the scans keep the rules
 pub record Kept : Type 0 where

@@ -218,5 +218,5 @@ pub step-small : (f scan : List ℕ) (j : Job) → StepSmall (stepAnswer f scan 
 unfolding stepAnswer
 step-small f scan j =
     either-way StepSmall (agrees f scan j) _ (step.Refused Disagrees)
-    (either-way StepSmall (hasLeft (sizesOf f) j) (wroteOf (sizesOf f) scan j) (confirmOf f scan j (openOf f)) tt (confirm-small f scan j (openOf f) refl))
+    (either-way StepSmall (hasLeft (sizesOf f) j) (wroteOf f (sizesOf f) scan j) (confirmOf f scan j (openOf f)) tt (confirm-small f scan j (openOf f) refl))
     (omega arith)

@@ -1,11 +1,12 @@
 -- From what a public call promises, in numbers and values, to its answer on the face.
-use Prim.Native.Nat.{ℕ, zero, suc, _≤_, _<_}
+use Prim.Native.Nat.{ℕ, zero, suc, _≤_}
 use mathlib.Core.Path.{_≡_, refl, sym, _∙_, ap, subst}
 use mathlib.Core.Bool.{Bool, true, false, cond}
 use mathlib.Core.List.{List}
 use native.Mathlib.Omega.{arith}
 use lib.Dec.{eqb}
-use borrow.Author.Tests.{lt-ltb, le-ltb}
+use Rattle.lent.proofs.Lists.{all-true}
+use borrow.Author.Tests.{leb-true}
 use Rattle.paper.specs.declared.answer.Span.{Span}
 use Rattle.paper.specs.declared.answer.Taken.{Taken}
 use Rattle.paper.specs.declared.entry.Found.{Found}
@@ -19,7 +20,7 @@ use Rattle.paper.specs.Refusals.{spanSays, takenSays, stepSays}
 use Rattle.paper.specs.Sizes.{sizesOf}
 use Rattle.paper.specs.Step.{agrees, hasLeft, stepFile, stepJob, stepAnswer}
 use Rattle.paper.proofs.Answers.{span-only, taken-only, step-only}
-use Rattle.sdd.specs.Face.{spanC, foundC, jobC, jobOf, begunC, steppedC, toldOf, beside, stepC, stepFileC, TakenSmall, SpanSmall, StepSmall}
+use Rattle.sdd.specs.Face.{spanC, foundC, jobC, jobOf, begunC, steppedC, toldOf, beside, flagTests, flagged, stepC, stepFileC, TakenSmall, SpanSmall, StepSmall}
 use Rattle.sdd.specs.declared.face.CJob.{CJob}
 use Rattle.sdd.specs.declared.face.CStepped.{CStepped}
 use Rattle.sdd.specs.declared.jobs.Told.{Told}
@@ -44,18 +45,18 @@ begun-face a b e h = rw (taken-only (a .answer) (b .answer) e, h)
 pub step-small-of : (a b : Step) → stepSays a ≡ stepSays b → StepSmall b → StepSmall a
 step-small-of a b e h = subst StepSmall (sym (step-only a b e)) h
 
-saves-back : (n : ℕ) → n ≤ 1 → cond (eqb n 1) 1 0 ≡ n
-saves-back zero h = refl
-saves-back (suc zero) h = refl
-saves-back (suc (suc n)) h = absurd (omega arith)
+flag-back : (n : ℕ) → n ≤ 1 → cond (eqb n 1) 1 0 ≡ n
+flag-back zero h = refl
+flag-back (suc zero) h = refl
+flag-back (suc (suc n)) h = absurd (omega arith)
 
 either-job : (P : Job → Type 0) (t : Bool) (a b : Job) → P a → P b → P (cond t a b)
 either-job P true a b x y = x
 either-job P false a b x y = y
 
 -- the job that came, but for these
-abbrev changed : CJob → ℕ → ℕ → List ℕ → CJob
-changed c saves written boot =
+abbrev changed : CJob → ℕ → ℕ → ℕ → List ℕ → CJob
+changed c saves lowers written boot =
     record {
       saves = saves;
       slot = c .slot;
@@ -63,40 +64,43 @@ changed c saves written boot =
       span = c .span;
       first = c .first;
       written = written;
+      lowers = lowers;
       boot = boot;
       about = c .about;
     }
 
 -- with the count and the bootstrap of the job k
 abbrev onward : CJob → Job → CJob
-onward c k = changed c (c .saves) (k .written) (k .boot)
+onward c k = changed c (c .saves) (c .lowers) (k .written) (k .boot)
 
 module _ (f scan : List ℕ) (c : CJob) (r : CStepped) (t : Told) where
-  -- a `saves` that is neither 0 nor 1
-  pub other-saves : 1 < c .saves → t ≡ toldOf (step.Refused Disagrees) → r ≡ beside t c → (r ≡ stepC f scan c) × (f ≡ stepFileC f scan c)
+  -- a flag that is neither 0 nor 1
+  pub other-flag : flagged c ≡ false → t ≡ toldOf (step.Refused Disagrees) → r ≡ beside t c → (r ≡ stepC f scan c) × (f ≡ stepFileC f scan c)
   unfolding stepC stepFileC
-  other-saves h e q =
-      (rw (lt-ltb 1 (c .saves) h) (q ∙ ap (λ (x : Told). beside x c) e), rw (lt-ltb 1 (c .saves) h) refl)
+  other-flag h e q = (rw h (q ∙ ap (λ (x : Told). beside x c) e), rw h refl)
 
   -- a step changes nothing of its job but the count and the bootstrap
-  onward-job : c .saves ≤ 1 → onward c (stepJob f scan (jobOf c)) ≡ jobC (stepJob f scan (jobOf c))
-  unfolding stepJob
+  onward-job : flagged c ≡ true → onward c (stepJob f scan (jobOf c)) ≡ jobC (stepJob f scan (jobOf c))
+  unfolding stepJob flagged
   onward-job h =
-      let same : (n : ℕ) (b : List ℕ) → changed c (c .saves) n b ≡ changed c (cond (eqb (c .saves) 1) 1 0) n b =
-      λ n b. ap (λ (s : ℕ). changed c s n b) (sym (saves-back (c .saves) h)) in
+      let p = all-true (flagTests c) h in
+      let same : (n : ℕ) (b : List ℕ) → changed c (c .saves) (c .lowers) n b ≡ changed c (cond (eqb (c .saves) 1) 1 0) (cond (eqb (c .lowers) 1) 1 0) n b =
+      λ n b.
+      ap (λ (s : ℕ). changed c s (c .lowers) n b) (sym (flag-back (c .saves) (leb-true _ _ (p .0))))
+      ∙ ap (λ (s : ℕ). changed c (cond (eqb (c .saves) 1) 1 0) s n b) (sym (flag-back (c .lowers) (leb-true _ _ (p .1 .0)))) in
       either-job (λ k. onward c k ≡ jobC k) (agrees f scan (jobOf c)) _ _
       (either-job (λ k. onward c k ≡ jobC k) (hasLeft (sizesOf f) (jobOf c)) _ _ (same _ _) (same _ _)) (same _ _)
 
   -- the step of the job that the numbers stand for
-  pub step-face : (g : List ℕ) (s : Stepped) (j : Job) → c .saves ≤ 1 → j ≡ jobOf c → stepSays (s .answer) ≡ stepSays (stepAnswer f scan j)
+  pub step-face : (g : List ℕ) (s : Stepped) (j : Job) → flagged c ≡ true → j ≡ jobOf c → stepSays (s .answer) ≡ stepSays (stepAnswer f scan j)
       → s .job ≡ stepJob f scan j → g ≡ stepFile f scan j → t ≡ toldOf (s .answer) → r ≡ beside t (onward c (s .job)) → (r ≡ stepC f scan c) × (g ≡ stepFileC f scan c)
   unfolding stepC stepFileC
   step-face g s j h e a b d k q =
       let w : s .answer ≡ stepAnswer f scan j = step-only (s .answer) (stepAnswer f scan j) a in
       let v : s .job ≡ stepJob f scan (jobOf c) = b ∙ ap (stepJob f scan) e in
       let x : stepAnswer f scan j ≡ stepAnswer f scan (jobOf c) = ap (stepAnswer f scan) e in (
-        rw (le-ltb 1 (c .saves) h)
+        rw h
             (q ∙ ap (λ (y : Told). beside y (onward c (s .job))) (k ∙ ap toldOf (w ∙ x)) ∙ ap (λ (y : Job). beside (toldOf (stepAnswer f scan (jobOf c))) (onward c y)) v
             ∙ ap (steppedC (stepAnswer f scan (jobOf c))) (onward-job h)),
-        rw (le-ltb 1 (c .saves) h, ← e) d,
+        rw (h, ← e) d,
       )

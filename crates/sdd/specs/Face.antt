@@ -1,8 +1,9 @@
 -- The answers of the paper as the C face gives them: "`why` is {0, 0} where the call is accepted, .. every other field of a refused answer is 0".
 use Prim.Native.Nat.{ℕ, _≤_}
-use mathlib.Core.Bool.{cond}
-use mathlib.Core.List.{List}
-use lib.Dec.{ltb, eqb}
+use mathlib.Core.Bool.{Bool, cond}
+use mathlib.Core.List.{List, [], _∷_}
+use lib.Dec.{leb, eqb}
+use Rattle.lent.specs.Lists.{all}
 use Rattle.paper.specs.declared.refusal.Refusal.{Refusal}
 use Rattle.paper.specs.declared.refusal.Refusal.the-variants.{Disagrees}
 use Rattle.paper.specs.declared.answer.Opened.{Opened}
@@ -92,7 +93,7 @@ foundC f =
       double = kindSays (f .entry .kind) .double;
     }
 
--- a job and its numbers: "1 a save or keep, 0 a clear"
+-- a job and its numbers: "1 a save or keep, 0 a clear", and likewise whether it lowers U
 abbrev pub jobC : Job → CJob
 jobC j =
     record {
@@ -102,6 +103,7 @@ jobC j =
       span = j .span;
       first = j .first;
       written = j .written;
+      lowers = cond (j .lowers) 1 0;
       boot = j .boot;
       about = j .about;
     }
@@ -115,6 +117,7 @@ jobOf c =
       span = c .span;
       first = c .first;
       written = c .written;
+      lowers = eqb (c .lowers) 1;
       boot = c .boot;
       about = c .about;
     }
@@ -139,13 +142,19 @@ beside t job = record { why = t .why; done = t .done; wrote = t .wrote; written 
 abbrev pub steppedC : Step → CJob → CStepped
 steppedC a job = beside (toldOf a) job
 
--- "any other value: step answers 14"
+-- "a value other than 0 and 1 is 14", of either
+abbrev pub flagTests : CJob → List Bool
+flagTests c = leb (c .saves) 1 ∷ leb (c .lowers) 1 ∷ []
+
+unfoldable pub flagged : CJob → Bool
+flagged c = all (flagTests c)
+
 unfoldable pub stepC : List ℕ → List ℕ → CJob → CStepped
 stepC f scan c =
-    cond (ltb 1 (c .saves)) (steppedC (step.Refused Disagrees) c) (steppedC (stepAnswer f scan (jobOf c)) (jobC (stepJob f scan (jobOf c))))
+    cond (flagged c) (steppedC (stepAnswer f scan (jobOf c)) (jobC (stepJob f scan (jobOf c)))) (steppedC (step.Refused Disagrees) c)
 
 unfoldable pub stepFileC : List ℕ → List ℕ → CJob → List ℕ
-stepFileC f scan c = cond (ltb 1 (c .saves)) f (stepFile f scan (jobOf c))
+stepFileC f scan c = cond (flagged c) (stepFile f scan (jobOf c)) f
 
 -- ---- no slot is above 4,096 and no reason above 6: a refusal's value fits the face
 

@@ -66,6 +66,7 @@ pub struct CJob {
     pub span: u64,
     pub first: u64,
     pub written: u64,
+    pub lowers: u64,
     pub boot: [u8; 32],
     pub about: [u8; 54],
 }

@@ -2,7 +2,7 @@
 ghost use mathlib.Core.Path.{_≡_};
 ghost use mathlib.Core.Bool.{cond};
 ghost use Rattle.paper.specs.Store.{blankOf, blankFile, saveOf, keepOf, clearOf};
-ghost use Rattle.sdd.specs.Face.{takenC, jobC, jobOf, begunC, toldDone, toldOf, beside, stepC, stepFileC, TakenSmall, StepSmall};
+ghost use Rattle.sdd.specs.Face.{takenC, jobC, jobOf, begunC, toldDone, toldOf, beside, flagged, stepC, stepFileC, TakenSmall, StepSmall};
 use super::face::CBegun;
 use super::face::CJob;
 use super::face::CStepped;
@@ -24,10 +24,10 @@ pub extern "C" fn sdd_blank(file: &mut [u8], n: u64, l: u64, m: u64) -> Why
     taken(t)
 }
 
-fn saves_number(saves: bool) -> u64
-    ensures { λ r. ⌜ r ≡ cond saves 1 0 ⌝ }
+fn flag(is: bool) -> u64
+    ensures { λ r. ⌜ r ≡ cond is 1 0 ⌝ }
 {
-    if saves { 1 } else { 0 }
+    if is { 1 } else { 0 }
 }
 
 // A job, in numbers.
@@ -37,12 +37,13 @@ fn numbers(j: Job) -> CJob
     let boot = j.boot;
     let about = j.about;
     CJob {
-        saves: saves_number(j.saves),
+        saves: flag(j.saves),
         slot: j.slot as u64,
         size: j.size as u64,
         span: j.span as u64,
         first: j.first as u64,
         written: j.written as u64,
+        lowers: flag(j.lowers),
         boot,
         about,
     }
@@ -61,6 +62,7 @@ fn job(c: CJob) -> Job
         span: c.span as usize,
         first: c.first as usize,
         written: c.written as usize,
+        lowers: c.lowers == 1,
         boot,
         about,
     }
@@ -149,13 +151,26 @@ fn stepped(t: Told, c: CJob) -> CStepped
     }
 }
 
+// Each of the two flags is 0 or 1.
+fn flagged(c: CJob) -> bool
+    ensures { λ r. ⌜ r ≡ flagged c ⌝ }
+{
+    if 1 < c.saves {
+        return false;
+    }
+    if 1 < c.lowers {
+        return false;
+    }
+    true
+}
+
 // The job that goes back is the one that came but for its count and bootstrap: all else of it is copied once.
 #[no_mangle]
 pub extern "C" fn sdd_step(file: &mut [u8], scan: &[u8], c: CJob) -> CStepped
     ensures { λ r. ⌜ r ≡ stepC (now (file .entry)) (now (scan .entry)) c ⌝ }
     ensures { λ r. ⌜ now (file .exit) ≡ stepFileC (now (file .entry)) (now (scan .entry)) c ⌝ }
 {
-    if 1 < c.saves {
+    if !flagged(c) {
         return stepped(answer(Step::Refused(Refusal::Disagrees)), c);
     }
     let s = store::step(file, scan, job(c));

@@ -14,12 +14,12 @@ use Rattle.paper.specs.declared.sizes.Sizes.{Sizes}
 use Rattle.paper.specs.declared.job.Job.{Job}
 use Rattle.paper.specs.Sizes.{sizesOf, versionOf, roomOf, Shaped}
 use Rattle.paper.specs.Index.{Booted}
-use Rattle.paper.specs.Store.{recordsFor, countOf}
+use Rattle.paper.specs.Store.{recordsFor, countOf, totalOf}
 use Rattle.paper.specs.Look.{slotTests}
 use Rattle.paper.specs.Step.{agrees, Agreeing}
 use Rattle.paper.proofs.Opening.{range-facts, facts-range}
 use Rattle.paper.proofs.Sizing.{less, home-in, slotted}
-use Rattle.paper.proofs.Writes.{some-record, row-saves}
+use Rattle.paper.proofs.Writes.{some-record, total-most, row-saves}
 use Rattle.paper.proofs.Agreement.{agreeing, disagreeing}
 use Rattle.steps.specs.Tests.{fileTests, sameFile, bootTests, bootHolds, hasSlot, fitTests, saveFits, recordsFit}
 use Rattle.writes.specs.Inside.{Placed, Homed, Rowed}
@@ -87,12 +87,12 @@ module _ (f scan : List ℕ) (j : Job) (z : Sizes) where
     pub other-records : recordsFit z (length f) j ≡ false → false ≡ agrees f scan j
     other-records e = refused (λ a. true≢false (records-there a) e)
 
-    pub too-many : countOf z j + 2 < j .written → false ≡ agrees f scan j
+    pub too-many : totalOf z j < j .written → false ≡ agrees f scan j
     too-many h = refused (λ a. omega (arith, a .left))
 
     -- and they are all of them
     pub all-agree : sameFile f scan j ≡ true → bootHolds f z ≡ true → hasSlot z (j .slot) ≡ true → recordsFit z (length f) j ≡ true
-        → j .written ≤ countOf z j + 2 → true ≡ agrees f scan j
+        → j .written ≤ totalOf z j → true ≡ agrees f scan j
     unfolding sameFile hasSlot recordsFit saveFits
     all-agree p b q r h =
         let t = all-true (fileTests f scan j) p in
@@ -126,6 +126,9 @@ module _ (f scan : List ℕ) (j : Job) (z : Sizes) where
 
     pub count-small : countOf z j ≤ 1000001
     count-small = ⊎-elim (λ e. omega (arith, placed e)) (λ e. omega (arith, count-clear z j e)) (either (j .saves))
+
+    pub total-small : totalOf z j ≤ 1000004
+    total-small = omega (arith, count-small, total-most z j)
 
     pub homed : Homed f z j
     homed =

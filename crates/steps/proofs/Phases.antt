@@ -17,10 +17,11 @@ use Rattle.paper.specs.declared.job.Stepped.{Stepped}
 use Rattle.paper.specs.Refusals.{stepSays}
 use Rattle.paper.specs.Sizes.{sizesOf, startOf, recordOf, homeOf, bootBytes}
 use Rattle.paper.specs.Index.{openOf, Booted}
-use Rattle.paper.specs.Store.{countOf, sizesAfter, entryAfter, totalOf}
+use Rattle.paper.specs.Store.{countOf, sizesAfter, entryAfter, lowered, totalOf}
 use Rattle.paper.specs.Step.{agrees, stepFile, stepJob, stepAnswer, confirmOf, steppedOf, Agreeing}
 use Rattle.paper.proofs.Opening.{open-sound}
-use Rattle.paper.proofs.Agreement.{agreed, file-refused, job-refused, answer-refused, step-row, step-boot, step-entry, step-past, job-head, job-past, answer-row, answer-boot, answer-entry, answer-past, stepped}
+use Rattle.paper.proofs.Agreement.{agreed, file-refused, job-refused, answer-refused, step-row, step-boot, step-entry, step-lower, step-past, job-head, job-past, answer-row, answer-boot, answer-entry, answer-lower, answer-past, stepped}
+use Rattle.paper.proofs.Writes.{phases}
 use Rattle.writes.specs.Inside.{Homed, wroteOne}
 use Rattle.steps.specs.Answers.{disagreed}
 use Rattle.steps.proofs.Agreed.{homed}
@@ -74,11 +75,17 @@ module _ (f scan : List ℕ) (j : Job) (r : ℕ) (g : List ℕ) (z : Sizes) (a :
       (q ∙ ap (λ (k : ℕ). write f (startOf z (j .first + j .written)) (pad (z .l) (take k (drop from scan)))) (add-sub-cancel-left from (z .l))
       ∙ sym (step-row f scan j z a e w))
 
-  pub boot-step : j .written ≡ countOf z j → r ≡ 1 → g ≡ write f 0 (bootBytes (sizesAfter z j)) → Written
+  pub boot-step : j .written ≡ countOf z j → r ≡ 1 → g ≡ write f 0 (bootBytes (sizesAfter f z j)) → Written
   boot-step w p q = wrote-step 1 (omega arith) (answer-boot f scan j z a e w) p (q ∙ sym (step-boot f scan j z a e w))
 
   pub entry-step : j .written ≡ countOf z j + 1 → r ≡ recordOf z (j .slot) → g ≡ write f (homeOf z (j .slot)) (entryAfter z j) → Written
   entry-step w p q = wrote-step (recordOf z (j .slot)) (omega arith) (answer-entry f scan j z a e w) p (q ∙ sym (step-entry f scan j z a e w))
+
+  -- what is left after the entry is the lowered U
+  pub lower-step : j .written < totalOf z j → countOf z j + 2 ≤ j .written → r ≡ 1 → g ≡ write f 0 (bootBytes (lowered f z)) → Written
+  lower-step w n p q =
+      phases Written z j (j .written) w (λ h. absurd (omega arith)) (λ h. absurd (omega arith)) (λ h. absurd (omega arith))
+      (λ h t. wrote-step 1 w (answer-lower f scan j z a e h t) p (q ∙ sym (step-lower f scan j z a e h t)))
 
 -- what a step says
 pub step-said : (f scan : List ℕ) (j : Job) (r : Stepped) → r ≡ steppedOf f scan j → (stepSays (r .answer) ≡ stepSays (stepAnswer f scan j)) × (r .job ≡ stepJob f scan j)

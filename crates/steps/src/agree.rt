@@ -106,7 +106,8 @@ pub fn agree(file: &[u8], scan: &[u8], z: Sizes, j: Job) -> bool
     if !records_fit(z, file.len(), j) {
         return false;
     }
-    if count::records(z, j) + 2 < j.written {
+    let k = count::records(z, j);
+    if count::total(j, k) < j.written {
         return false;
     }
     true

@@ -10,9 +10,12 @@ use writes::write;
 ghost use mathlib.Core.Path.{_≡_};
 ghost use mathlib.Core.Bool.{true};
 ghost use lib.ListN.{take};
+ghost use Rattle.lent.specs.Write.{write};
+ghost use Rattle.paper.specs.Sizes.{bootBytes};
 ghost use Rattle.paper.specs.Index.{Booted};
+ghost use Rattle.paper.specs.Store.{sizesAfter, lowered};
 ghost use Rattle.paper.specs.Step.{agrees, stepFile, steppedOf};
-ghost use Rattle.writes.specs.Inside.{wroteOne};
+ghost use Rattle.writes.specs.Inside.{Homed, wroteOne};
 ghost use Rattle.steps.specs.Answers.{Left, disagreed};
 
 pub mod agree;
@@ -28,6 +31,26 @@ fn refused(j: Job) -> Stepped
     }
 }
 
+// Record 1, with the highest slot that has a scan in the file as it stands, the job's counted.
+fn boot_next(file: &mut [u8], z: Sizes, j: Job) -> usize
+    requires { ⌜ Booted (now file) z × Homed (now file) z j ⌝ }
+    ensures { λ r. ⌜ r ≡ 1 ⌝ }
+    ensures { λ _. ⌜ now (file .exit) ≡ write (now (file .entry)) 0 (bootBytes (sizesAfter (now (file .entry)) z j)) ⌝ }
+{
+    let u = used::highest(file, z, j.slot);
+    write::write_boot(file, z, j, u)
+}
+
+// Record 1 again, once the highest slot is cleared.
+fn used_next(file: &mut [u8], z: Sizes) -> usize
+    requires { ⌜ Booted (now file) z ⌝ }
+    ensures { λ r. ⌜ r ≡ 1 ⌝ }
+    ensures { λ _. ⌜ now (file .exit) ≡ write (now (file .entry)) 0 (bootBytes (lowered (now (file .entry)) z)) ⌝ }
+{
+    let u = used::highest(file, z, 0);
+    write::write_used(file, z, u)
+}
+
 // The write at the job's place in its list, of which the first k are the data records. It answers the record that it wrote.
 fn write_next(file: &mut [u8], scan: &[u8], z: Sizes, j: Job, k: usize) -> usize
     requires { ⌜ Booted (now file) z ⌝ }
@@ -40,9 +63,12 @@ fn write_next(file: &mut [u8], scan: &[u8], z: Sizes, j: Job, k: usize) -> usize
         return write::write_data(file, scan, z, j);
     }
     if j.written == k {
-        return write::write_boot(file, z, j);
+        return boot_next(file, z, j);
     }
-    write::write_entry(file, z, j)
+    if j.written == k + 1 {
+        return write::write_entry(file, z, j);
+    }
+    used_next(file, z)
 }
 
 // One write, or past the last the confirmation. A step that writes judges no index. The bootstrap that the job then expects
@@ -54,7 +80,7 @@ fn next(file: &mut [u8], scan: &[u8], z: Sizes, j: Job) -> Stepped
     ensures { λ _. ⌜ now (file .exit) ≡ stepFile (now (file .entry)) (now (scan .entry)) j ⌝ }
 {
     let k = count::records(z, j);
-    if k + 2 <= j.written {
+    if count::total(j, k) <= j.written {
         let answer = confirm::confirm(file, scan, j);
         return Stepped { answer, job: j };
     }

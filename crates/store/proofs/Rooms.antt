@@ -1,26 +1,29 @@
 -- A file that was judged, its row and its marks: what the calls on them ask for, and what their answers say of the file.
-use Prim.Native.Nat.{ℕ, _*_, _≤_}
+use Prim.Native.Nat.{ℕ, _*_, _≤_, max}
 use mathlib.Core.Path.{_≡_, sym, _∙_, ap, subst}
-use mathlib.Core.Bool.{true}
+use mathlib.Core.Bool.{Bool, true, false}
 use mathlib.Core.List.{List}
 use native.Mathlib.Omega.{arith}
 use borrow.Author.Tests.{leb-true}
+use lib.Dec.{eqb}
 use lib.ListN.{length}
 use Rattle.lent.proofs.Lists.{all-true}
 use Rattle.paper.specs.declared.sizes.Sizes.{Sizes}
+use Rattle.paper.specs.declared.sizes.Run.{Run}
 use Rattle.paper.specs.declared.answer.Opened.{Opened}
 use Rattle.paper.specs.declared.answer.Opened.the-variants.{Opens}
-use Rattle.paper.specs.Sizes.{capacityOf, Shaped}
-use Rattle.paper.specs.Index.{runOf, changeBootOf, changeOf}
-use Rattle.paper.specs.Store.{recordsFor, freePlace, emptySlot}
-use Rattle.paper.proofs.Opening.{change-sound, change-index, index-same}
-use Rattle.entries.specs.Row.{rowRun, InFile}
+use Rattle.paper.specs.Sizes.{sizesOf, capacityOf, Shaped}
+use Rattle.paper.specs.Index.{runOf, empty, changeBootOf, changeOf}
+use Rattle.paper.specs.Store.{recordsFor, freePlace, emptySlot, highest}
+use Rattle.paper.proofs.Opening.{full-facts, change-sound, change-index, index-same}
+use Rattle.paper.proofs.Used.{full-highest}
+use Rattle.entries.specs.Row.{rowRun, InFile, Bare}
 use Rattle.index.specs.Judging.{Looked}
 use Rattle.room.specs.Passing.{Sought, Hints, Vacant}
 use Rattle.room.proofs.Freeing as room
 use Rattle.paper.specs.Look.{slotTests}
 use Rattle.steps.specs.Tests.{hasSlot}
-use Rattle.store.specs.Beginning.{Rowing}
+use Rattle.store.specs.Beginning.{Rowing, Clearing}
 
 pub opens-shape : (f : List ℕ) {z : Sizes} → changeOf f ≡ Opens z → Shaped z
 opens-shape f o = change-sound f o .booted .ranged .shape
@@ -40,6 +43,23 @@ unfolding hasSlot
 has-slot f {z} o slot there =
     let t = all-true (slotTests z slot) there in
     record { booted = change-sound f o .booted; low = leb-true 1 slot (t .0); high = leb-true slot (capacityOf z) (t .1 .0) }
+
+-- and one that has a scan
+pub clearing : (f : List ℕ) (slot : ℕ) {z : Sizes} → changeOf f ≡ Opens z → hasSlot z slot ≡ true → (a : Run) → a ≡ runOf f z slot → (b : Bool) → b ≡ empty a → b ≡ false
+    → Clearing f z slot
+clearing f slot {z} o there a r b e h =
+    let i = has-slot f o slot there in
+    record { opens = o; slotted = record { low = i .low; high = i .high }; full = full-facts (runOf f z slot) (ap empty (sym r) ∙ sym e ∙ h) }
+
+-- whether it is the highest
+module _ (f : List ℕ) (z : Sizes) (slot : ℕ) (h : Clearing f z slot) where
+  pub bare-above : Bare f z (z .u) (capacityOf z)
+  bare-above = let S = change-sound f (h .opens) in record { low = S .booted .ranged .used; empty = λ s a b. S .laid .above s a b }
+
+  pub lowers-is : (top : ℕ) → top ≡ max (highest f z) slot → eqb slot top ≡ eqb slot (highest f (sizesOf f))
+  lowers-is top e =
+      let t : top ≡ highest f z = omega (arith, full-highest f z slot (h .slotted .high) (h .full)) in
+      ap (eqb slot) t ∙ ap (λ (y : Sizes). eqb slot (highest f y)) (sym (change-sound f (h .opens) .booted .reads))
 
 module _ (f : List ℕ) (z : Sizes) (row ws : List ℕ) (h : Rowing f z row ws) where
   pub sought : (k : ℕ) → (1 ≤ k) × (k ≤ 65536) → Sought row z k

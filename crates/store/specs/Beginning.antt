@@ -9,7 +9,8 @@ use Rattle.paper.specs.declared.refusal.Refusal.the-variants.{TooShort}
 use Rattle.paper.specs.declared.answer.Opened.{Opened}
 use Rattle.paper.specs.declared.answer.Opened.the-variants.{Opens, Refused}
 use Rattle.paper.specs.declared.job.Begun.{Begun}
-use Rattle.paper.specs.Index.{changeBootOf, changeOf, Booted}
+use Rattle.paper.specs.Index.{runOf, Full, changeBootOf, changeOf, Booted}
+use Rattle.paper.specs.Look.{InIndex}
 use Rattle.paper.specs.Store.{refused, accepted, scanChecks, saveJob, saveOf, keepOf}
 use Rattle.index.specs.Judging.{Looked}
 use Rattle.store.specs.declared.judged.Goal.{Goal}
@@ -25,6 +26,12 @@ pub record Rowing (f : List ℕ) (z : Sizes) (row ws : List ℕ) : Type 0 where
   pub opens : changeOf f ≡ Opens z
   pub looked : Looked f z row ws (Opens z)
   pub wide : 2 * z .u ≤ length row
+
+-- a file that may be changed, and a slot of it that has a scan
+pub record Clearing (f : List ℕ) (z : Sizes) (slot : ℕ) : Type 0 where
+  pub opens : changeOf f ≡ Opens z
+  pub slotted : InIndex z slot
+  pub full : Full (runOf f z slot)
 
 -- a refusal of the file's, as the beginning's
 abbrev pub refusedBy : Opened → Begun

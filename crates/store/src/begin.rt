@@ -10,7 +10,7 @@ ghost use mathlib.Core.Path.{_≡_};
 ghost use Prim.Native.Nat.{_≤_};
 ghost use lib.ListN.{length};
 ghost use Rattle.paper.specs.Store.{savesAt, accepted, refused, clearJob, reasonOf, saveOf, keepOf, clearOf};
-ghost use Rattle.store.specs.Beginning.{Rowing, refusedBy, placedOf};
+ghost use Rattle.store.specs.Beginning.{Rowing, Clearing, refusedBy, placedOf};
 
 // A job of zeros.
 fn refused(r: Refusal) -> Begun
@@ -25,6 +25,7 @@ fn refused(r: Refusal) -> Begun
             span: 0,
             first: 0,
             written: 0,
+            lowers: false,
             boot: [0u8; 32],
             about: [0u8; 54],
         },
@@ -66,18 +67,20 @@ fn save_job(file: &[u8], slot: usize, scan: &[u8], about: [u8; 54], first: usize
             span: file.len(),
             first,
             written: 0,
+            lowers: false,
             boot: b,
             about,
         },
     }
 }
 
-// A clear's job looks at neither place nor bytes.
-fn clear_job(file: &[u8], slot: usize) -> Begun
-    requires { ⌜ 32 ≤ length (now file) ⌝ }
+// A clear's job looks at neither place nor bytes. It lowers U where no slot above has a scan: none above U has, since the file opens.
+fn clear_job(file: &[u8], z: Sizes, slot: usize) -> Begun
+    requires { ⌜ Clearing (now file) z slot ⌝ }
     ensures { λ b. ⌜ b ≡ accepted (clearJob (now (file .entry)) slot) ⌝ }
 {
     let b = writes::boot::head(file);
+    let top = used::highest_to(file, z, z.u, slot);
     Begun {
         answer: Taken::Accepted,
         job: Job {
@@ -87,6 +90,7 @@ fn clear_job(file: &[u8], slot: usize) -> Begun
             span: file.len(),
             first: 0,
             written: 0,
+            lowers: slot == top,
             boot: b,
             about: [0u8; 54],
         },
@@ -170,5 +174,5 @@ pub fn cleared(file: &[u8], slot: usize) -> Begun
     if entries::entry::empty(entries::row::run_at(file, z, slot)) {
         return refused(Refusal::EmptySlot);
     }
-    clear_job(file, slot)
+    clear_job(file, z, slot)
 }

@@ -1,13 +1,15 @@
--- How many records a scan takes, and the sizes that a job's bootstrap states.
+-- How many records a scan takes and a job has to write, and the sizes that its bootstrap states.
 use Prim.Native.Nat.{ℕ, _+_, _-_, _*_, _/_, _≤_, max}
-use mathlib.Core.Path.{_≡_, refl}
-use mathlib.Core.Bool.{Bool, true, false}
+use mathlib.Core.Path.{_≡_, refl, _∙_, ap}
+use mathlib.Core.Bool.{Bool, true, false, cond}
+use mathlib.Core.List.{List}
 use native.Mathlib.Omega.{arith}
 use native.Mathlib.Nat.{div-eq-of-lt, add-div-right, mul-le-mul}
 use Rattle.paper.specs.declared.sizes.Sizes.{Sizes}
 use Rattle.paper.specs.declared.job.Job.{Job}
-use Rattle.paper.specs.Sizes.{renewed, startOf, Shaped}
-use Rattle.paper.specs.Store.{recordsFor, countOf, counterAfter, sizesAfter}
+use Rattle.paper.specs.Sizes.{renewed, capacityOf, startOf, Shaped, Ranged}
+use Rattle.paper.specs.Store.{highest, recordsFor, countOf, dataAfter, usedAfter, counterAfter, sizesAfter, lowersOf, lowered}
+use Rattle.paper.proofs.Used.{highest-le}
 use Rattle.writes.specs.Inside.{Narrow, Placed, Held}
 
 -- "S / L rounded up", without a sum that could wrap
@@ -25,28 +27,43 @@ count-save z j e = rw e
 pub count-clear : (z : Sizes) (j : Job) → j .saves ≡ false → 0 ≡ countOf z j
 count-clear z j e = rw e
 
--- the sizes that the job's bootstrap states
-pub after-save : (z : Sizes) (j : Job) → j .saves ≡ true
-    → renewed z (max (z .d) (j .first + countOf z j - 1 - z .n)) (max (z .u) (j .slot)) (counterAfter z) ≡ sizesAfter z j
-after-save z j e = rw e
+-- how many in all
+module _ (j : Job) (k : ℕ) where
+  pub total-save : j .saves ≡ true → k + 2 ≡ k + 2 + cond (lowersOf j) 1 0
+  total-save e = omega (arith, ap (λ (b : Bool). cond {A = ℕ} (cond b false (j .lowers)) 1 0) e)
 
-pub after-clear : (z : Sizes) (j : Job) → j .saves ≡ false → renewed z (z .d) (z .u) (counterAfter z) ≡ sizesAfter z j
-after-clear z j e = rw e
+  pub total-clear : j .saves ≡ false → j .lowers ≡ false → k + 2 ≡ k + 2 + cond (lowersOf j) 1 0
+  total-clear e l =
+      omega (arith, ap (λ (b : Bool). cond {A = ℕ} (cond b false (j .lowers)) 1 0) e ∙ ap (λ (b : Bool). cond {A = ℕ} b 1 0) l)
+
+  pub total-lowers : j .saves ≡ false → j .lowers ≡ true → k + 3 ≡ k + 2 + cond (lowersOf j) 1 0
+  total-lowers e l =
+      omega (arith, ap (λ (b : Bool). cond {A = ℕ} (cond b false (j .lowers)) 1 0) e ∙ ap (λ (b : Bool). cond {A = ℕ} b 1 0) l)
+
+-- the sizes that the job's bootstrap states, with any U
+pub after-save : (z : Sizes) (j : Job) (u : ℕ) → j .saves ≡ true
+    → renewed z (max (z .d) (j .first + countOf z j - 1 - z .n)) u (counterAfter z) ≡ renewed z (dataAfter z j) u (counterAfter z)
+after-save z j u e = rw e
+
+pub after-clear : (z : Sizes) (j : Job) (u : ℕ) → j .saves ≡ false → renewed z (z .d) u (counterAfter z) ≡ renewed z (dataAfter z j) u (counterAfter z)
+after-clear z j u e = rw e
 
 -- and that they fit their words
-pub narrow-after : (z : Sizes) (j : Job) → Held z j → Narrow (sizesAfter z j)
-narrow-after z j h = go (j .saves) refl
-  where
-    small : (d u : ℕ) → d ≤ 1000001 → u ≤ 4096 → Narrow (renewed z d u (counterAfter z))
-    small d u p q =
-        let r = h .ranged in
-        record { n = omega arith; d = omega arith; l = omega arith; m = omega arith; u = omega arith; kind = omega arith }
+pub narrow : (z : Sizes) (d u c : ℕ) → Ranged z → d ≤ 1000001 → u ≤ capacityOf z → Narrow (renewed z d u c)
+narrow z d u c r p q = record { n = omega arith; d = omega arith; l = omega arith; m = omega arith; u = omega arith; kind = omega arith }
 
-    go : (b : Bool) → j .saves ≡ b → Narrow (sizesAfter z j)
-    go true e =
-        let p = h .placed e in
-        rw (← after-save z j e) (small _ _ (omega arith) (omega arith))
-    go false e = rw (← after-clear z j e) (small _ _ (omega arith) (omega arith))
+data-small : (z : Sizes) (j : Job) → Held z j → dataAfter z j ≤ 1000001
+data-small z j h = go (j .saves) refl
+  where
+    go : (b : Bool) → j .saves ≡ b → cond b (max (z .d) (j .first + countOf z j - 1 - z .n)) (z .d) ≤ 1000001
+    go true e = let p = h .placed e in let r = h .ranged in omega arith
+    go false e = let r = h .ranged in omega arith
+
+pub narrow-after : (f : List ℕ) (z : Sizes) (j : Job) → Held z j → Narrow (sizesAfter f z j)
+narrow-after f z j h = narrow z (dataAfter z j) (usedAfter f z j) (counterAfter z) (h .ranged) (data-small z j h) (omega (arith, highest-le f z, h .slot .high))
+
+pub narrow-lowered : (f : List ℕ) (z : Sizes) → Ranged z → Narrow (lowered f z)
+narrow-lowered f z r = narrow z (z .d) (highest f z) (z .counter) r (omega (arith, r .records)) (highest-le f z)
 
 -- where a save's k records begin, and how many bytes they are
 pub record Spanned (z : Sizes) (j : Job) (k : ℕ) : Type 0 where

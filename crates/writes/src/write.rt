@@ -1,4 +1,4 @@
-//! The three kinds of a job's writes: a data record, record 1, the slot's entry. Each answers the record that it wrote.
+//! The kinds of a job's writes: a data record, record 1, the slot's entry, record 1 with a lowered U. Each answers the record that it wrote.
 use super::boot;
 use super::count;
 use super::entry;
@@ -11,7 +11,8 @@ ghost use Prim.Native.Nat.{_+_, _*_, _≤_, _<_, max};
 ghost use Rattle.lent.specs.Write.{write, pad};
 ghost use Rattle.lent.specs.Part.{part};
 ghost use Rattle.paper.specs.Sizes.{startOf, recordOf, homeOf, bootBytes, renewed};
-ghost use Rattle.paper.specs.Store.{counterAfter, sizesAfter, entryAfter};
+ghost use Rattle.paper.specs.Index.{Booted};
+ghost use Rattle.paper.specs.Store.{highest, dataAfter, usedAfter, counterAfter, sizesAfter, entryAfter, lowered};
 ghost use Rattle.writes.specs.Inside.{Held, Homed, Rowed, wroteOne};
 
 // The answer for the record written, and the job one write on, which then expects the bootstrap `boot`.
@@ -64,25 +65,40 @@ fn renew(z: Sizes, d: usize, u: usize) -> Sizes
     y
 }
 
-// The sizes that the job's bootstrap states.
-fn sizes_after(z: Sizes, j: Job) -> Sizes
+// The sizes that the job's bootstrap states, with the U that it is to have.
+fn sizes_after(z: Sizes, j: Job, u: usize) -> Sizes
     requires { ⌜ Held z j ⌝ }
-    ensures { λ r. ⌜ r ≡ sizesAfter z j ⌝ }
+    ensures { λ r. ⌜ r ≡ renewed z (dataAfter z j) u (counterAfter z) ⌝ }
 {
     if j.saves {
         let d = j.first + count::records(z, j) - 1 - z.n;
-        return renew(z, higher(z.d, d), higher(z.u, j.slot));
+        return renew(z, higher(z.d, d), u);
     }
-    renew(z, z.d, z.u)
+    renew(z, z.d, u)
 }
 
-// Record 1: its first 32 bytes, all after them kept.
-pub fn write_boot(file: &mut [u8], z: Sizes, j: Job) -> usize
+// Record 1: its first 32 bytes, all after them kept. U is the highest slot with a scan, the job's counted.
+pub fn write_boot(file: &mut [u8], z: Sizes, j: Job, u: usize) -> usize
     requires { ⌜ Homed (now file) z j ⌝ }
+    requires { ⌜ u ≡ usedAfter (now file) z j ⌝ }
     ensures { λ r. ⌜ r ≡ 1 ⌝ }
-    ensures { λ _. ⌜ now (file .exit) ≡ write (now (file .entry)) 0 (bootBytes (sizesAfter z j)) ⌝ }
+    ensures { λ _. ⌜ now (file .exit) ≡ write (now (file .entry)) 0 (bootBytes (sizesAfter (now (file .entry)) z j)) ⌝ }
 {
-    let b = boot::boot_bytes(sizes_after(z, j));
+    let b = boot::boot_bytes(sizes_after(z, j, u));
+    lent::write::copy_to(file, 0, &b);
+    1
+}
+
+// Record 1 again, with U lowered to what is left; the counter is not raised twice.
+pub fn write_used(file: &mut [u8], z: Sizes, u: usize) -> usize
+    requires { ⌜ Booted (now file) z ⌝ }
+    requires { ⌜ u ≡ highest (now file) z ⌝ }
+    ensures { λ r. ⌜ r ≡ 1 ⌝ }
+    ensures { λ _. ⌜ now (file .exit) ≡ write (now (file .entry)) 0 (bootBytes (lowered (now (file .entry)) z)) ⌝ }
+{
+    let mut y = z;
+    y.u = u;
+    let b = boot::boot_bytes(y);
     lent::write::copy_to(file, 0, &b);
     1
 }

@@ -38,8 +38,9 @@ unsafe extern "C" fn not_there(_: *const u8, _: usize, _: *mut u8, _: usize) -> 
     unreachable!("the library has no such call")
 }
 
-/// The calls of a shared object. An earlier library may answer with fewer fields: it is given memory for all of today's,
-/// and nobody looks at what it answers.
+/// The calls of a shared object. An earlier library may answer with fewer fields: it is given memory for all of today's.
+/// Of what it answers `why`, `done` and `first` are looked at, which stand where they always did. Its job goes back to it
+/// byte for byte as it came, and it takes of that as many bytes as its own job has; so a shorter job does no harm.
 fn load(path: &str) -> Calls {
     // SAFETY: the library's own beginnings do nothing.
     let library = unsafe { dlopen(words(path).as_ptr(), RTLD_NOW | RTLD_LOCAL) };
@@ -103,4 +104,69 @@ pub fn measure(words: &[String]) -> bool {
         .collect();
     table::print(&["call and file", "before µs", "after µs", "after over before", ""], &rows);
     ratios.iter().all(|ratio| ratio.middle <= LIMIT)
+}
+
+#[cfg(test)]
+mod tests {
+    use crate::call::{Call, Stage};
+    use crate::file::{File, Form, M, Order, Plan};
+    use face::{Calls, Refusal};
+    use std::hint::black_box;
+    use std::mem::transmute;
+
+    /// A job as it was before request 2026-04: no `lowers`, so the bootstrap and the entry stand 8 bytes lower.
+    #[repr(C)]
+    struct ShortJob {
+        numbers: [u64; 6],
+        boot: [u8; 32],
+        about: [u8; 54],
+    }
+
+    #[repr(C)]
+    struct ShortBegun {
+        why: Refusal,
+        job: ShortJob,
+    }
+
+    #[repr(C)]
+    struct ShortStepped {
+        why: Refusal,
+        done: u64,
+        record: u64,
+        written: u64,
+        job: ShortJob,
+    }
+
+    const BOOT: [u8; 32] = [0xb0; 32];
+    const ABOUT: [u8; 54] = [0xab; 54];
+
+    extern "C" fn save(_: *const u8, _: usize, slot: u64, _: *const u8, len: usize, _: *const u8) -> ShortBegun {
+        let job = ShortJob { numbers: [1, slot, len as u64, 4096, 7, 0], boot: BOOT, about: ABOUT };
+        ShortBegun { why: Refusal::NONE, job }
+    }
+
+    /// Counts to three; a job that did not come back as it went is refused.
+    extern "C" fn step(_: *mut u8, _: usize, _: *const u8, len: usize, mut job: ShortJob) -> ShortStepped {
+        let [saves, _, scan_len, file_len, first, written] = job.numbers;
+        let as_it_went = [saves, scan_len, file_len, first] == [1, len as u64, 4096, 7];
+        let as_it_went = as_it_went && job.boot == BOOT && job.about == ABOUT;
+        let number = if as_it_went { 0 } else { face::refused::JOB_DISAGREES };
+        job.numbers[5] += u64::from(written < 3);
+        let written = job.numbers[5];
+        ShortStepped { why: Refusal { number, value: 0 }, done: u64::from(written == 3), record: 1, written, job }
+    }
+
+    #[test]
+    fn a_shorter_job_of_an_earlier_library_comes_back_to_it_as_it_went() {
+        // the compiler must not see which functions these are, as it does not see those of a library that is loaded
+        let (save, step) = (black_box(save as *const ()), black_box(step as *const ()));
+        // SAFETY: the answer is written to memory for a longer one, and of the longer job the first bytes are taken.
+        let calls = unsafe { Calls { save: transmute(save), step: transmute(step), ..plain::calls() } };
+        let order = Order::Rising;
+        let plan = Plan { slots: 8, m: M, used: 1, run: 1, gap: 0, order, room: 8, form: Form::Current };
+        let mut stage = Stage::new(File::new(plan), Call::Open);
+        let stepped = stage.save(&calls);
+        assert_eq!((stepped.done, stepped.written), (1, 3));
+        assert_eq!(stage.free_place(&calls), 7);
+    }
 }

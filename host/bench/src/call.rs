@@ -28,8 +28,12 @@ pub enum Call {
     BeginClear,
     /// A save of so many bytes to the last slot, from its beginning to Saved.
     Save(usize),
-    /// A clear of the last slot, which holds a scan of so many bytes.
+    /// The same to the slot after those in use: for U the empty slots above it are looked at.
+    SaveNext(usize),
+    /// A clear of the last slot, which holds a scan of so many bytes. It is the highest, so U is lowered by a third write.
     Clear(usize),
+    /// A clear of the slot in the middle of those in use: two writes.
+    ClearMiddle,
     /// Bootstrap and index into a second buffer of N records, in the current form or in the old one.
     ToCurrent,
     ToOld,
@@ -39,6 +43,16 @@ impl Call {
     /// Whether it is a conversion.
     pub fn is_move(self) -> bool {
         matches!(self, Call::ToCurrent | Call::ToOld)
+    }
+
+    /// Whether it is a whole save.
+    pub fn saves(self) -> bool {
+        matches!(self, Call::Save(_) | Call::SaveNext(_))
+    }
+
+    /// Whether it is a whole job.
+    pub fn is_job(self) -> bool {
+        self.saves() || matches!(self, Call::Clear(_) | Call::ClearMiddle)
     }
 }
 
@@ -57,7 +71,9 @@ impl fmt::Display for Call {
             Call::BeginKeep(bytes) => write!(f, "begin keep {bytes}"),
             Call::BeginClear => f.write_str("begin clear"),
             Call::Save(bytes) => write!(f, "save {bytes}"),
+            Call::SaveNext(bytes) => write!(f, "save next {bytes}"),
             Call::Clear(bytes) => write!(f, "clear {bytes}"),
+            Call::ClearMiddle => f.write_str("clear middle"),
             Call::ToCurrent => f.write_str("to_current"),
             Call::ToOld => f.write_str("to_old"),
         }
@@ -71,7 +87,9 @@ pub struct Stage {
     out: Vec<u32>,
     /// The second buffer of a conversion, which has N records; of any other call it is not used.
     pub second: Map,
-    /// Record 1 and the last slot's entry, as they are before a job.
+    /// The slot of a job.
+    slot: usize,
+    /// Record 1 and that slot's entry, as they are before the job.
     boot: [u8; 32],
     entry: [u8; M],
 }
@@ -80,12 +98,18 @@ impl Stage {
     /// The file as the call finds it.
     pub fn new(file: File, call: Call) -> Stage {
         let bytes = match call {
-            Call::BeginSave(bytes) | Call::BeginKeep(bytes) | Call::Save(bytes) | Call::Clear(bytes) => bytes,
+            Call::BeginSave(bytes) | Call::BeginKeep(bytes) => bytes,
+            Call::Save(bytes) | Call::SaveNext(bytes) | Call::Clear(bytes) => bytes,
             _ => 512,
         };
         let second = Map::new(file.plan.n() * file.plan.l());
         let (scan, out) = (sample::scan(bytes, 9), vec![0; 3 * 4096]);
-        let mut stage = Stage { file, scan, out, second, boot: [0; 32], entry: [0; M] };
+        let slot = match call {
+            Call::ClearMiddle => file.middle(),
+            Call::SaveNext(_) => file.plan.used + 1,
+            _ => file.plan.slots,
+        };
+        let mut stage = Stage { file, scan, out, second, slot, boot: [0; 32], entry: [0; M] };
         if matches!(call, Call::Clear(_)) {
             let saved = stage.save(&plain::calls());
             assert!(saved.done == 1, "no scan to clear: {:?}", saved.why);
@@ -98,12 +122,12 @@ impl Stage {
     }
 
     fn slot(&self) -> u64 {
-        self.file.plan.slots as u64
+        self.slot as u64
     }
 
-    /// Where the last slot's entry begins.
+    /// Where the entry of a job's slot begins.
     fn home(&self) -> usize {
-        self.file.plan.home(self.file.plan.slots)
+        self.file.plan.home(self.slot)
     }
 
     /// Makes the call once. A job is undone again: two copies of 96 bytes, for either side.
@@ -128,11 +152,11 @@ impl Stage {
                 }
                 Call::BeginKeep(_) => _ = black_box((calls.keep)(at, len, scan, scan_len, ABOUT.as_ptr())),
                 Call::BeginClear => _ = black_box((calls.clear)(at, len, middle)),
-                Call::Save(_) => {
+                Call::Save(_) | Call::SaveNext(_) => {
                     black_box(self.save(calls));
                     self.undo();
                 }
-                Call::Clear(_) => {
+                Call::Clear(_) | Call::ClearMiddle => {
                     black_box(self.clear(calls));
                     self.undo();
                 }
@@ -187,10 +211,32 @@ impl Stage {
 
     /// A clear, in the same way.
     pub fn clear(&mut self, calls: &Calls) -> Stepped {
+        let job = self.begin_clear(calls);
+        self.steps(calls, job, null(), 0)
+    }
+
+    fn begin_clear(&self, calls: &Calls) -> Job {
         // SAFETY: as in `make`.
         let begun = unsafe { (calls.clear)(self.file.map.pointer(), self.file.map.size(), self.slot()) };
         assert!(begun.why.number == 0, "clear refused: {:?}", begun.why);
-        self.steps(calls, begun.job, null(), 0)
+        begun.job
+    }
+
+    /// The steps of a clear that has been begun.
+    pub fn steps_of_clear(&mut self, calls: &Calls) -> impl FnMut() {
+        let job = self.begin_clear(calls);
+        let calls = *calls;
+        move || _ = self.steps(&calls, job, null(), 0)
+    }
+
+    /// A whole job: its last answer, and what it leaves of record 1 and of its entry. It is undone again.
+    pub fn done(&mut self, calls: &Calls, call: Call) -> (Stepped, Vec<u8>) {
+        let stepped = if call.saves() { self.save(calls) } else { self.clear(calls) };
+        let home = self.home();
+        let bytes = self.file.map.bytes();
+        let left = [&bytes[..32], &bytes[home..home + M]].concat();
+        self.undo();
+        (stepped, left)
     }
 
     fn steps(&mut self, calls: &Calls, mut job: Job, scan: *const u8, scan_len: usize) -> Stepped {

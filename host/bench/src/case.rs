@@ -50,7 +50,7 @@ impl Case {
     fn judgements(&self) -> usize {
         match self.call {
             Call::Blank => 0,
-            Call::Save(_) | Call::Clear(_) => 2,
+            job if job.is_job() => 2,
             _ => 1,
         }
     }
@@ -61,12 +61,16 @@ impl Case {
         Stage::new(if self.shares { file.share() } else { file }, self.call)
     }
 
-    /// Looks whether library and plain Rust do the same: opens, and where it is one the conversion.
+    /// Looks whether library and plain Rust do the same: opens, and where it is one the conversion or the whole job.
     fn agree(&self, stage: &mut Stage, library: &Calls, plain: &Calls) {
         assert_eq!(stage.opened(library), stage.opened(plain), "{}: the two do not do the same", self.name());
         if self.call.is_move() {
             let same = stage.converted(library, self.call) == stage.converted(plain, self.call);
             assert!(same, "{}: the two do not write the same", self.name());
+        }
+        if self.call.is_job() {
+            let done = [library, plain].map(|calls| stage.done(calls, self.call));
+            assert_eq!(done[0], done[1], "{}: the two do not end the same", self.name());
         }
     }
 

@@ -46,6 +46,7 @@ pub fn make(calls: &Calls) {
         Call::BeginKeep(65_536),
         Call::BeginClear,
         Call::Clear(65_536),
+        Call::ClearMiddle,
     ];
     for order in Order::ALL {
         for call in needs_none {

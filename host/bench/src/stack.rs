@@ -81,13 +81,14 @@ pub fn depths(calls: &Calls) -> Vec<Depth> {
     let mut depths: Vec<Depth> = alone
         .map(|(name, call)| Depth { name, bytes: deepest(call, &|stage| depth(&mut || stage.make(calls, call))) })
         .into();
-    // the steps of a save are every kind of step there is; a clear has one kind less
-    let step = deepest(Call::Save(65_536), &|stage| depth(&mut stage.steps_of_save(calls)));
-    depths.push(Depth { name: "step", bytes: step });
+    // a save and a clear of the highest slot have every kind of step there is
+    let saves = deepest(Call::Save(65_536), &|stage| depth(&mut stage.steps_of_save(calls)));
+    let clears = deepest(Call::Clear(65_536), &|stage| depth(&mut stage.steps_of_clear(calls)));
+    depths.push(Depth { name: "step", bytes: saves.max(clears) });
     depths
 }
 
-/// The most that is measured, over files in every order and of both forms; no save runs on an old one.
+/// The most that is measured, over files in every order and of both forms; no job runs on an old one.
 fn deepest(call: Call, measure: &dyn Fn(&mut Stage) -> usize) -> usize {
     let of = |form, order| {
         let plan = match form {
@@ -97,6 +98,6 @@ fn deepest(call: Call, measure: &dyn Fn(&mut Stage) -> usize) -> usize {
         };
         measure(&mut Stage::new(File::new(plan), call))
     };
-    let forms = if matches!(call, Call::Save(_)) { &[Form::Current][..] } else { &Form::ALL };
+    let forms = if call.is_job() { &[Form::Current][..] } else { &Form::ALL };
     forms.iter().flat_map(|form| Order::ALL.map(|order| of(*form, order))).max().unwrap()
 }

@@ -81,15 +81,16 @@ fn jobs(orders: &[Order], sizes: &[usize]) -> Vec<Case> {
         for order in orders {
             let plan = Plan { used, room, ..full(4096, *order, run) };
             for bytes in sizes {
-                cases.push(case(Call::Save(*bytes), plan));
-                cases.push(case(Call::Clear(*bytes), plan));
+                cases.extend([Call::Save, Call::SaveNext, Call::Clear].map(|call| case(call(*bytes), plan)));
             }
+            cases.push(case(Call::ClearMiddle, plan));
         }
     }
     cases
 }
 
-/// The lines that a change of the library is held to: 4,096 slots of the current form.
+/// The lines that a change of the library is held to: 4,096 slots of the current form. A clear of the highest slot is
+/// none of them: since request 2026-04 it has a write more.
 pub fn before() -> Vec<Case> {
     let mut cases: Vec<Case> = Order::ALL.map(|order| case(Call::Open, full(4096, order, 8))).into();
     for order in [Order::Rising, Order::Random] {
@@ -97,7 +98,10 @@ pub fn before() -> Vec<Case> {
         let calls =
             [Call::List, Call::Entry, Call::Read, Call::BeginSave(65_536), Call::BeginKeep(512), Call::BeginClear];
         cases.extend(calls.map(|call| case(call, plan)));
-        cases.push(case(Call::Save(65_536), Plan { used: 4000, ..plan }));
+        for used in [256, 4000] {
+            let jobs = [Call::Save(65_536), Call::SaveNext(512), Call::SaveNext(65_536), Call::ClearMiddle];
+            cases.extend(jobs.map(|call| case(call, Plan { used, ..plan })));
+        }
     }
     cases
 }

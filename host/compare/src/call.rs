@@ -105,7 +105,7 @@ impl Answer {
     /// answers are the same where these bytes are. Every NaN value counts as one,
     /// since the header promises no more; its bits are compared in their own field.
     pub fn bytes(&self) -> Vec<u8> {
-        let mut all = Vec::with_capacity(168);
+        let mut all = Vec::with_capacity(176);
         let why = self.why();
         put4(&mut all, &[why.number, why.value]);
         match self {
@@ -136,7 +136,7 @@ fn put8(all: &mut Vec<u8>, numbers: &[u64]) {
 
 /// A job's fields, as [`Answer::bytes`] has them.
 pub fn put_job(all: &mut Vec<u8>, job: &Job) {
-    put8(all, &[job.saves, job.slot, job.scan_len, job.file_len, job.first, job.written]);
+    put8(all, &[job.saves, job.slot, job.scan_len, job.file_len, job.first, job.written, job.lowers]);
     all.extend(job.boot);
     all.extend(job.about);
 }
@@ -312,11 +312,12 @@ fn stepped(file: &[u8], scan: &[u8], job: &Job) -> Expected {
 }
 
 fn to_face(job: &model::Job) -> Job {
-    let model::Job { saves, slot, scan_len, file_len, first, written, boot, about } = *job;
-    Job { saves, slot, scan_len, file_len, first, written, boot, about }
+    let model::Job { saves, slot, scan_len, file_len, first, written, lowers, boot, about } = *job;
+    Job { saves, slot, scan_len, file_len, first, written, lowers, boot, about }
 }
 
-fn to_model(job: &Job) -> model::Job {
-    let Job { saves, slot, scan_len, file_len, first, written, boot, about } = *job;
-    model::Job { saves, slot, scan_len, file_len, first, written, boot, about }
+/// A job as the model has it.
+pub fn to_model(job: &Job) -> model::Job {
+    let Job { saves, slot, scan_len, file_len, first, written, lowers, boot, about } = *job;
+    model::Job { saves, slot, scan_len, file_len, first, written, lowers, boot, about }
 }

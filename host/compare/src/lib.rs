@@ -5,7 +5,7 @@
 //! guard pages, and the whole answer and all memory are compared. The cases
 //! come in themes; [`run`] mixes them from a seed.
 //!
-//! From the ground up: `rng` and `call`, `cases` and `tally` on `moves`, `world` with its subjects (`linked` on
+//! From the ground up: `rng` and `call`, `cases` and `tally` on `moves` and `used`, `world` with its subjects (`linked` on
 //! `guarded`, `recorder`), `themes`, `run`. Apart from these, on `rng` alone, `lengths`.
 
 mod call;
@@ -20,6 +20,7 @@ mod run;
 mod seed;
 mod tally;
 mod themes;
+mod used;
 mod world;
 
 pub use lengths::{Tried, lengths};

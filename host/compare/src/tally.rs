@@ -1,7 +1,9 @@
-//! What was reached: calls, refusals and reasons, the refusals of old files once more by themselves, and conversions.
+//! What was reached: calls, refusals and reasons, the refusals of old files once more by themselves, conversions, and what
+//! jobs did to U.
 
-use crate::call::{Answer, Call, NAMES};
+use crate::call::{Answer, Call, Lent, NAMES};
 use crate::moves::Moves;
+use crate::used::Used;
 use std::fmt;
 
 /// The numbers of refusals, and 0.
@@ -29,6 +31,8 @@ pub struct Tally {
     pub old: [[u64; NUMBERS]; 3],
     /// Conversions.
     pub(crate) moves: Moves,
+    /// What jobs did to U.
+    used: Used,
 }
 
 /// Which of the rows of `OLD` a call counts for; none where the file's form does not matter to it.
@@ -44,8 +48,8 @@ fn old_row(call: &Call) -> Option<usize> {
 }
 
 impl Tally {
-    /// Counts one call on this file, which is old or not.
-    pub(crate) fn count(&mut self, call: &Call, answer: &Answer, old: bool, file: &[u8]) {
+    /// Counts one call, with what was lent to it as it is after it; the file is old or not.
+    pub(crate) fn count(&mut self, call: &Call, answer: &Answer, old: bool, lent: &Lent) {
         let why = answer.why();
         self.calls[call.number()] += 1;
         self.refusals[why.number as usize] += 1;
@@ -60,7 +64,8 @@ impl Tally {
         {
             self.confirmed[stepped.done as usize - 1] += 1;
         }
-        self.moves.count(call, why.number, file);
+        self.moves.count(call, why.number, lent.file);
+        self.used.count(call, answer, lent);
     }
 
     /// All calls.
@@ -82,17 +87,18 @@ impl Tally {
         let counts =
             self.calls.iter_mut().chain(&mut self.refusals).chain(&mut self.reasons).chain(&mut self.confirmed);
         let counts = counts.chain(self.old.iter_mut().flatten()).chain(self.moves.numbers_mut());
+        let counts = counts.chain(self.used.numbers_mut());
         counts.zip(numbers).for_each(|(count, number)| *count += number);
         true
     }
 
     fn numbers(&self) -> impl Iterator<Item = u64> {
         let counts = self.calls.iter().chain(&self.refusals).chain(&self.reasons).chain(&self.confirmed);
-        counts.chain(self.old.iter().flatten()).chain(self.moves.numbers()).copied()
+        counts.chain(self.old.iter().flatten()).chain(self.moves.numbers()).chain(self.used.numbers()).copied()
     }
 
     /// Refusals, reasons and confirmations that no case reached, of an old file what it can be answered with, and of
-    /// conversions all that is counted.
+    /// conversions and of U all that is counted.
     pub fn unreached(&self) -> Vec<String> {
         let mut missing = Vec::new();
         let mut look = |name: &str, counts: &[u64], from: usize| {
@@ -111,6 +117,8 @@ impl Tally {
         }
         missing
             .extend(Moves::names().zip(self.moves.numbers()).filter(|(_, count)| **count == 0).map(|(name, _)| name));
+        let used = Used::names().zip(self.used.numbers()).filter(|(_, count)| **count == 0);
+        missing.extend(used.map(|(name, _)| name.to_string()));
         missing
     }
 }
@@ -141,6 +149,10 @@ impl fmt::Display for Tally {
         }
         writeln!(f, "conversions")?;
         for (name, count) in Moves::names().zip(self.moves.numbers()) {
+            writeln!(f, "  {count:>9}  {name}")?;
+        }
+        writeln!(f, "U")?;
+        for (name, count) in Used::names().zip(self.used.numbers()) {
             writeln!(f, "  {count:>9}  {name}")?;
         }
         Ok(())

@@ -15,6 +15,7 @@ mod past;
 mod reach;
 mod scans;
 mod shared;
+mod used;
 mod wide;
 
 use crate::world::{Round, World};
@@ -30,17 +31,18 @@ pub struct Theme {
 }
 
 /// The themes whose turn comes by chance.
-pub const THEMES: [Theme; 10] = [
-    Theme { name: "files", share: 20, round: files::round },
-    Theme { name: "edges", share: 12, round: edges::round },
+pub const THEMES: [Theme; 11] = [
+    Theme { name: "files", share: 16, round: files::round },
+    Theme { name: "edges", share: 11, round: edges::round },
     Theme { name: "scans", share: 13, round: scans::round },
-    Theme { name: "blanks", share: 5, round: blanks::round },
-    Theme { name: "histories", share: 12, round: histories::round },
+    Theme { name: "blanks", share: 4, round: blanks::round },
+    Theme { name: "histories", share: 11, round: histories::round },
     Theme { name: "cuts", share: 6, round: cuts::round },
     Theme { name: "forged", share: 7, round: forged::round },
     Theme { name: "confirming", share: 7, round: confirming::round },
-    Theme { name: "older", share: 8, round: older::round },
-    Theme { name: "moved", share: 10, round: moved::round },
+    Theme { name: "older", share: 7, round: older::round },
+    Theme { name: "moved", share: 9, round: moved::round },
+    Theme { name: "used", share: 9, round: used::round },
 ];
 
 /// Up to 4,096 slots; dear, so its turn comes by count.

@@ -138,8 +138,9 @@ impl<'a> World<'a> {
         if let Some(write) = &expected.converted {
             write.apply(&mut self.second);
         }
-        self.tally.count(&call, &expected.answer, self.is_old(), &self.file);
         let held = Lent { file: &self.file, scan: &self.scan, about: &self.about, second: &self.second };
+        let old = self.is_old();
+        self.tally.count(&call, &expected.answer, old, &held);
         self.subject
             .call(&call, &expected, &held)
             .map_err(|what| Disagreement { what: format!("{call:?}\n  {what}") })?;

@@ -26,8 +26,8 @@ fn agree(subject: &str, cases: u64) -> Tally {
 fn what_no_case_reached_is_named() {
     let missing = Tally::default().unreached();
     // refusals with 0, rules, Saved and Cleared, calls; then an old file's looks, changes and steps; then the answers of
-    // conversions, what they came upon, and the ways there and home
-    assert_eq!(missing.len(), 20 + 6 + 2 + 14 + 13 + 3 + 1 + 2 * 10 + 19 + 4);
+    // conversions, what they came upon, and the ways there and home; then what jobs did to U
+    assert_eq!(missing.len(), 20 + 6 + 2 + 14 + 13 + 3 + 1 + 2 * 10 + 19 + 4 + 26);
     let named = [
         "refusal 19",
         "a look at an old file, 18",
@@ -38,6 +38,9 @@ fn what_no_case_reached_is_named() {
         "19, D 32,768",
         "taken, D 32,767",
         "there and home from the old form, byte for byte",
+        "a third write, U lowered to 0",
+        "U lowered by a save",
+        "14, a clear that says neither 0 nor 1",
     ];
     for name in named {
         assert!(missing.iter().any(|missing| missing == name), "{name} is not among {missing:?}");

@@ -85,6 +85,8 @@ pub struct Job {
     pub file_len: u64,
     pub first: u64,
     pub written: u64,
+    /// Of a clear: 1 where it writes record 1 a second time, to lower U.
+    pub lowers: u64,
     pub boot: [u8; 32],
     pub about: [u8; 54],
 }
@@ -159,6 +161,15 @@ impl Entry {
 
 impl Job {
     /// The job of zeros: what a refused save, keep or clear hands back.
-    pub const ZEROS: Job =
-        Job { saves: 0, slot: 0, scan_len: 0, file_len: 0, first: 0, written: 0, boot: [0; 32], about: [0; 54] };
+    pub const ZEROS: Job = Job {
+        saves: 0,
+        slot: 0,
+        scan_len: 0,
+        file_len: 0,
+        first: 0,
+        written: 0,
+        lowers: 0,
+        boot: [0; 32],
+        about: [0; 54],
+    };
 }

@@ -10,9 +10,9 @@ const _: () = {
     assert!(size_of::<Listed>() == 16);
     assert!(size_of::<Span>() == 24);
     assert!(size_of::<Entry>() == 88);
-    assert!(size_of::<Job>() == 136);
-    assert!(size_of::<Begun>() == 144);
-    assert!(size_of::<Stepped>() == 168);
+    assert!(size_of::<Job>() == 144);
+    assert!(size_of::<Begun>() == 152);
+    assert!(size_of::<Stepped>() == 176);
 
     assert!(offset_of!(Opened, kind) == 56);
     assert!(offset_of!(Opened, room) == 72);
@@ -25,7 +25,8 @@ const _: () = {
     assert!(offset_of!(Entry, kind) == 72);
     assert!(offset_of!(Entry, single_value) == 76);
     assert!(offset_of!(Entry, double_value) == 80);
-    assert!(offset_of!(Job, boot) == 48);
-    assert!(offset_of!(Job, about) == 80);
+    assert!(offset_of!(Job, lowers) == 48);
+    assert!(offset_of!(Job, boot) == 56);
+    assert!(offset_of!(Job, about) == 88);
     assert!(offset_of!(Stepped, job) == 32);
 };

@@ -43,6 +43,12 @@ fn runs(file: &[u8], sizes: &Sizes) -> Vec<Run> {
     (1..=sizes.capacity()).map(|slot| Run::of(file, sizes, slot)).collect()
 }
 
+/// "the highest slot with a scan": "the greatest slot up to capacity whose entry is not empty, or 0", "also above U".
+/// It is asked of files that need not open, so of entries whose first and last are anything.
+pub fn highest(file: &[u8], sizes: &Sizes) -> u64 {
+    (1..=sizes.capacity()).filter(|slot| !Run::of(file, sizes, *slot).is_empty()).max().unwrap_or(0)
+}
+
 /// Judges a file of either form: refusals 1 and 3 to 8.
 pub fn open(file: &[u8]) -> Answer<Sizes> {
     let sizes = bootstrap(file)?;

@@ -1,7 +1,7 @@
 //! "A save, record by record": blank, save, keep, clear and step.
 
 use crate::bytes::{Write, word_bytes};
-use crate::index::{Run, listed, open};
+use crate::index::{Run, highest, listed, open};
 use crate::look::occupied;
 use crate::refusal::{Answer, refuse};
 use crate::scan::{Purpose, rules};
@@ -25,6 +25,8 @@ pub struct Job {
     pub first: u64,
     /// Records written so far.
     pub written: u64,
+    /// Of a clear: 1 where it "gets a third write, record 1 again". Of a save 0 and 1 mean the same.
+    pub lowers: u64,
     /// The first 32 bytes as the job was begun on or last wrote them.
     pub boot: [u8; 32],
     /// The entry's bytes 8 to 61.
@@ -109,17 +111,19 @@ fn begin_save(file: &[u8], sizes: &Sizes, slot: u64, scan: &[u8], about: &About)
     Ok(Job { saves: 1, slot, scan_len, first, about: *about, ..job_on(file) })
 }
 
-/// Begins a clear.
+/// Begins a clear. "A clear of that highest slot gets a third write"; which slot that is, is asked here and not again.
 pub fn clear(file: &[u8], slot: u64) -> Answer<Job> {
     may_change(file)?;
-    occupied(file, slot)?;
-    Ok(Job { slot, ..job_on(file) })
+    let (sizes, _) = occupied(file, slot)?;
+    let lowers = if slot == highest(file, &sizes) { 1 } else { 0 };
+    Ok(Job { slot, lowers, ..job_on(file) })
 }
 
 /// A job on this file with everything else zero.
 fn job_on(file: &[u8]) -> Job {
     let boot = file[..32].try_into().unwrap();
-    Job { saves: 0, slot: 0, scan_len: 0, file_len: file.len() as u64, first: 0, written: 0, boot, about: [0; 54] }
+    let file_len = file.len() as u64;
+    Job { saves: 0, slot: 0, scan_len: 0, file_len, first: 0, written: 0, lowers: 0, boot, about: [0; 54] }
 }
 
 /// The sizes where job, file and scan agree; none of the sentence "A step checks 14 first" applies then, and the file
@@ -135,7 +139,11 @@ fn agree(file: &[u8], scan: &[u8], job: &Job) -> Option<Sizes> {
     if file[..32] != job.boot {
         return None;
     }
-    if !sizes.has_slot(job.slot) || job.written > writes_of(&sizes, job) {
+    // "a value other than 0 and 1 is 14 as for `saves`"
+    if job.lowers > 1 {
+        return None;
+    }
+    if !sizes.has_slot(job.slot) || job.written > turns(&sizes, job).len() as u64 {
         return None;
     }
     match job.saves {
@@ -145,10 +153,28 @@ fn agree(file: &[u8], scan: &[u8], job: &Job) -> Option<Sizes> {
     }
 }
 
-/// How many records the job has to write: k data records, record 1 and the index record;
-/// of a clear the last two.
-fn writes_of(sizes: &Sizes, job: &Job) -> u64 {
-    data_records(sizes, job) + 2
+/// One of the records that a job has to write.
+#[derive(Clone, Copy)]
+enum Turn {
+    /// The scan's record number i, counted from 0.
+    Data(u64),
+    /// Record 1.
+    Bootstrap,
+    /// The slot's index record.
+    Index,
+    /// "record 1 again with U lowered to what is left".
+    Lowered,
+}
+
+/// All that the job has to write, in order: the k data records, record 1 and the index record; of a clear the last two,
+/// and where it lowers U "a third write".
+fn turns(sizes: &Sizes, job: &Job) -> Vec<Turn> {
+    let mut turns: Vec<Turn> = (0..data_records(sizes, job)).map(Turn::Data).collect();
+    turns.extend([Turn::Bootstrap, Turn::Index]);
+    if job.saves == 0 && job.lowers == 1 {
+        turns.push(Turn::Lowered);
+    }
+    turns
 }
 
 /// k, or 0 for a clear.
@@ -167,21 +193,30 @@ pub fn step(file: &[u8], scan: &[u8], job: &Job) -> Answer<Stepped> {
     let Some(sizes) = agree(file, scan, job) else {
         return refuse(14);
     };
-    let k = data_records(&sizes, job);
-    if job.written == k + 2 {
+    let Some(turn) = turns(&sizes, job).get(job.written as usize).copied() else {
         return confirm(file, scan, job);
-    }
-    let (record, write, boot) = if job.written < k {
-        let record = job.first + job.written;
-        (record, Write { at: sizes.record_at(record), bytes: padded(scan, &sizes, job.written) }, job.boot)
-    } else if job.written == k {
-        let boot = renewed(&sizes, job).current_words();
-        (1, Write { at: 0, bytes: boot.to_vec() }, boot)
-    } else {
-        (sizes.home_record(job.slot), Write { at: sizes.home(job.slot), bytes: entry_bytes(&sizes, job) }, job.boot)
     };
-    let job = Job { written: job.written + 1, boot, ..*job };
-    Ok(Stepped { done: Done::Wrote(record), write: Some(write), job })
+    let next = Job { written: job.written + 1, ..*job };
+    Ok(match turn {
+        Turn::Data(i) => {
+            let at = sizes.record_at(job.first + i);
+            wrote(job.first + i, at, padded(scan, &sizes, i), next)
+        }
+        Turn::Bootstrap => wrote_words(&renewed(file, &sizes, job), next),
+        Turn::Index => wrote(sizes.home_record(job.slot), sizes.home(job.slot), entry_bytes(&sizes, job), next),
+        Turn::Lowered => wrote_words(&lowered(file, &sizes), next),
+    })
+}
+
+/// A step that wrote these bytes into this record.
+fn wrote(record: u64, at: usize, bytes: Vec<u8>, job: Job) -> Stepped {
+    Stepped { done: Done::Wrote(record), write: Some(Write { at, bytes }), job }
+}
+
+/// A step that wrote these sizes to record 1: the first 32 bytes "the job last wrote there" are then these.
+fn wrote_words(sizes: &Sizes, job: Job) -> Stepped {
+    let boot = sizes.current_words();
+    wrote(1, 0, boot.to_vec(), Job { boot, ..job })
 }
 
 /// The bytes of the scan's record number i, counted from 0, the last padded with zeros.
@@ -193,14 +228,21 @@ fn padded(scan: &[u8], sizes: &Sizes, i: u64) -> Vec<u8> {
     record
 }
 
-/// "D = max(D, r+k-1-N), U = max(U, slot) and the counter one higher"; of a clear the counter only.
-fn renewed(sizes: &Sizes, job: &Job) -> Sizes {
+/// "D = max(D, r+k-1-N)" of a save, "and the counter one higher"; and "the bootstrap write sets U to the highest slot
+/// with a scan, the one being saved or cleared counted".
+fn renewed(file: &[u8], sizes: &Sizes, job: &Job) -> Sizes {
     let counter = (sizes.counter + 1) % (1 << 32);
+    let u = highest(file, sizes).max(job.slot);
     if job.saves == 0 {
-        return Sizes { counter, ..*sizes };
+        return Sizes { u, counter, ..*sizes };
     }
     let last = job.first + data_records(sizes, job) - 1;
-    Sizes { d: sizes.d.max(last - sizes.n), u: sizes.u.max(job.slot), counter, ..*sizes }
+    Sizes { d: sizes.d.max(last - sizes.n), u, counter, ..*sizes }
+}
+
+/// "record 1 again with U lowered to what is left, or 0; its counter isn't raised twice".
+fn lowered(file: &[u8], sizes: &Sizes) -> Sizes {
+    Sizes { u: highest(file, sizes), ..*sizes }
 }
 
 /// The entry's M bytes as the job gives them: first, last, about and zeros; of a clear M zeros.

@@ -18,7 +18,7 @@ mod sizes;
 
 pub use bytes::Write;
 pub use convert::{Hindrance, hindrances, to_current, to_old};
-pub use index::{Run, listed, open};
+pub use index::{Run, highest, listed, open};
 pub use job::{About, Done, Job, Stepped, blank, clear, keep, save, step};
 pub use look::{Entry, Kind, class, data, entry, list, read, show};
 pub use refusal::{Answer, Refusal};

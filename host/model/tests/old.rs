@@ -164,12 +164,14 @@ fn a_step_on_an_old_file_is_14() {
         file_len: file.len() as u64,
         first: 4,
         written: 0,
+        lowers: 0,
         boot: file[..32].try_into().unwrap(),
         about: [0; 54],
     };
-    for written in 0..=3 {
-        assert_eq!(refused(step(&file, &scan, &Job { written, ..save })), (14, 0));
-        let clear = Job { saves: 0, slot: 1, scan_len: 0, first: 0, written, ..save };
+    for (written, lowers) in (0..=3).flat_map(|written| [(written, 0), (written, 1)]) {
+        let save = Job { written, lowers, ..save };
+        assert_eq!(refused(step(&file, &scan, &save)), (14, 0));
+        let clear = Job { saves: 0, slot: 1, scan_len: 0, first: 0, ..save };
         assert_eq!(refused(step(&file, &[], &clear)), (14, 0));
     }
 }

@@ -1,5 +1,5 @@
 //! What is said: to people, to programs, on failure, and while long work goes on.
-//! From the ground up: `shown` and `json`, `refused`, `failure`, `out` and `progress`.
+//! From the ground up: `shown`, `json` and `used`, `refused`, `failure`, `out` and `progress`.
 
 pub mod failure;
 pub mod json;
@@ -7,3 +7,4 @@ pub mod out;
 pub mod progress;
 pub mod refused;
 pub mod shown;
+pub mod used;

@@ -36,6 +36,32 @@ fn the_papers_run() {
 }
 
 #[test]
+fn a_clear_of_the_highest_slot_writes_record_1_twice() {
+    let folder = folder("clear_writes");
+    paper_file(&folder);
+    let name = scan_file(&folder, 512, 1);
+    for slot in ["1", "3", "9"] {
+        wrote(&folder, &["save", "f.sdd", slot, &name]);
+    }
+    let counter = || wrote(&folder, &["check", "f.sdd"]).split("counter ").nth(1).unwrap().chars().next();
+    assert_eq!(counter(), Some('3'));
+    let cleared = wrote(&folder, &["clear", "f.sdd", "9", "--yes"]);
+    let lines = "record 1 written (1 of 3)\nrecord 3 written (2 of 3)\nrecord 1 written (3 of 3)\n";
+    assert!(cleared.starts_with(lines) && cleared.contains("\ncleared: slot 9, held "), "{cleared}");
+    assert_eq!(wrote(&folder, &["list", "f.sdd"]), "slots 16 used 3 scans 2\n1 4 4\n3 5 5\n");
+    // the counter goes up once
+    assert_eq!(counter(), Some('4'));
+    // another slot: two records, and U stays
+    assert_eq!(records(&wrote(&folder, &["clear", "f.sdd", "1", "--yes"])), [1, 2]);
+    assert_eq!(wrote(&folder, &["list", "f.sdd"]), "slots 16 used 3 scans 1\n3 5 5\n");
+    // the only one
+    let cleared = wrote(&folder, &["clear", "f.sdd", "3", "--yes", "--json"]);
+    assert!(cleared.contains("\n{\"event\":\"record\",\"record\":1,\"written\":3,\"of\":3}\n"), "{cleared}");
+    assert_eq!(wrote(&folder, &["list", "f.sdd"]), "slots 16 used 0 scans 0\n");
+    assert_eq!(counter(), Some('6'));
+}
+
+#[test]
 fn what_is_saved_is_read_and_shown() {
     let folder = folder("read_and_shown");
     paper_file(&folder);

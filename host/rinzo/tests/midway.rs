@@ -90,15 +90,30 @@ fn ctrl_c_drops_the_job_between_two_records_and_says_what_the_file_shows() {
         let shown = run(&folder, &["read", "f.sdd", "1"]).stdout;
         assert_eq!(shown, scan(1_000, if written < 4 { 1 } else { 2 }));
     }
-    let job = waiting(&folder, &["clear", "f.sdd", "1", "--yes", "--json"], 1);
-    job.interrupt();
-    let (status, printed, _) = job.go_on();
-    assert_eq!(status, Some(130));
-    assert!(
-        printed.starts_with("{\"failed\":130,\"sentence\":\"f.sdd: interrupted. The job is dropped; slot 1"),
-        "{printed}"
-    );
     assert!(wrote(&folder, &["check", "f.sdd", "--scans"]).starts_with("good"));
+}
+
+#[test]
+fn ctrl_c_drops_a_clear_and_says_whether_the_used_number_is_too_high() {
+    let folder = folder("ctrl_c_clear");
+    let name = file_with_a_scan(&folder);
+    wrote(&folder, &["save", "f.sdd", "9", &name]);
+    let file = fs::read(folder.join("f.sdd")).unwrap();
+    let empty = "slot 9 is empty now, which is not confirmed: list the file";
+    for (written, shows) in [
+        (1, "slot 9 shows the scan that it had before: do it again".to_string()),
+        (2, format!("{empty}; used 9, highest scan in slot 1: the next save or clear sets it right")),
+        (3, empty.to_string()),
+    ] {
+        fs::write(folder.join("f.sdd"), &file).unwrap();
+        let job = waiting(&folder, &["clear", "f.sdd", "9", "--yes", "--json"], written);
+        job.interrupt();
+        let (status, printed, said) = job.go_on();
+        assert_eq!((status, said.as_str()), (Some(130), ""));
+        let sentence = format!("\"sentence\":\"f.sdd: interrupted. The job is dropped; {shows}\"");
+        assert!(printed.starts_with("{\"failed\":130,") && printed.contains(&sentence), "{printed}");
+        assert!(wrote(&folder, &["check", "f.sdd", "--scans"]).starts_with("good"));
+    }
 }
 
 #[test]

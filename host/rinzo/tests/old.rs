@@ -40,8 +40,18 @@ N 3 D 5 L 512 M 64 U 9 counter 65534 type 0 (data), old form
     let json = wrote(&folder, &["check", "old.sdd", "--json"]);
     assert!(json.starts_with("{\"file\":\"old.sdd\",\"form\":\"old\",\"n\":3,\"d\":5,\"l\":512,"), "{json}");
     assert!(json.ends_with("\"broken\":null,\"not-version-one\":null}\n"), "{json}");
+    assert!(json.contains("\"u\":9,") && json.contains("\"highest\":9,"), "{json}");
     paper_file(&folder);
     assert!(wrote(&folder, &["check", "f.sdd"]).contains(" type 0 (data), current form\n"));
+
+    // U above the highest scan is said of an old file too, and nothing sets it right
+    let mut bytes = fs::read(folder.join("old.sdd")).unwrap();
+    bytes[9] = 12;
+    fs::write(folder.join("old.sdd"), bytes).unwrap();
+    let checked = wrote(&folder, &["check", "old.sdd"]);
+    let told =
+        " U 12 counter 65534 type 0 (data), old form\nused 12, highest scan in slot 9: an old file is not changed\n";
+    assert!(checked.contains(told), "{checked}");
 }
 
 #[test]

@@ -35,6 +35,43 @@ fn check_counts_records_and_says_what_it_has_looked_at() {
     assert!(wrote(&folder, &["check", "f.sdd", "--scans", "--json"]).contains("\"broken\":[]"));
 }
 
+/// Sets U in record 1, as a cut may leave it.
+fn put_used(folder: &Path, used: u8) {
+    let mut bytes = fs::read(folder.join("f.sdd")).unwrap();
+    bytes[19] = used;
+    fs::write(folder.join("f.sdd"), bytes).unwrap();
+}
+
+#[test]
+fn check_says_where_the_used_number_is_too_high() {
+    let folder = folder("check_used");
+    paper_file(&folder);
+    let name = scan_file(&folder, 512, 1);
+    let check = |wanted: &str, highest: u64| {
+        let checked = wrote(&folder, &["check", "f.sdd"]);
+        let told: Vec<&str> = checked.lines().filter(|line| line.starts_with("used ")).collect();
+        assert_eq!(told.concat(), wanted, "{checked}");
+        let json = wrote(&folder, &["check", "f.sdd", "--json"]);
+        assert!(json.contains(&format!("\"highest\":{highest},")), "{json}");
+    };
+    check("", 0);
+    // there is nothing to clear
+    put_used(&folder, 9);
+    check("used 9, no scan: the next save sets it right", 0);
+    wrote(&folder, &["save", "f.sdd", "2", &name]);
+    check("", 2);
+    put_used(&folder, 16);
+    check("used 16, highest scan in slot 2: the next save or clear sets it right", 2);
+    assert!(wrote(&folder, &["check", "f.sdd", "--json"]).contains("\"u\":16,"));
+    wrote(&folder, &["clear", "f.sdd", "2", "--yes"]);
+    check("", 0);
+    for (command, part) in
+        [("check", "Then a line says so; it is no\ndamage"), ("clear", "did not say `cleared`: list")]
+    {
+        assert!(wrote(&folder, &[command, "--help"]).contains(part), "{command}");
+    }
+}
+
 #[test]
 fn check_lists_every_broken_scan() {
     let folder = folder("broken");

@@ -35,7 +35,7 @@ pub enum Confirmed {
     },
 }
 
-/// A job that is not confirmed. The file opens all the same: the slot shows what it did before or, where the last
+/// A job that is not confirmed. The file opens all the same: the slot shows what it did before or, where the index
 /// record was written, what the job was to leave there.
 #[derive(Clone, Copy, Debug, PartialEq, Eq)]
 pub enum Dropped<E> {

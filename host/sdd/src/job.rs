@@ -8,6 +8,9 @@ use face::done;
 
 /// A save, keep or clear under way. It is a value: copy it freely. A job that
 /// is stepped no more is dropped; the file stays good wherever it stopped.
+///
+/// To begin a job on a file is to drop every other one on it: two that are
+/// stepped by turns can take the same records, and a scan is lost.
 #[derive(Clone, Copy, Debug, PartialEq, Eq)]
 pub struct Job(face::Job);
 
@@ -37,9 +40,15 @@ impl Job {
         self.0.written
     }
 
-    /// Records that the job writes in all, where a record has L bytes: the scan's, record 1 and an index record.
+    /// Whether it is a clear of the highest slot with a scan, which writes record 1 once more to lower U.
+    pub fn lowers(&self) -> bool {
+        self.0.saves == 0 && self.0.lowers == 1
+    }
+
+    /// Records that the job writes in all, where a record has L bytes: the scan's, record 1 and an index record; of a
+    /// clear that lowers U, record 1 again.
     pub fn records(&self, l: u64) -> u64 {
-        self.0.scan_len.div_ceil(l) + 2
+        self.0.scan_len.div_ceil(l) + 2 + u64::from(self.lowers())
     }
 }
 
@@ -88,7 +97,7 @@ pub fn keep(file: &[u8], scan: &[u8], about: &About) -> Result<Job, Refusal> {
     accepted(begun.why, Job(begun.job))
 }
 
-/// Begins to clear a slot: refusals 1 to 10.
+/// Begins to clear a slot: refusals 1 to 10. The highest slot with a scan takes one record more ([`Job::lowers`]).
 pub fn clear(file: &[u8], slot: u64) -> Result<Job, Refusal> {
     // SAFETY: as in `save`.
     let begun = unsafe { (calls().clear)(file.as_ptr(), file.len(), slot) };

@@ -33,7 +33,8 @@ pub struct Sizes {
     pub l: u64,
     /// M: bytes per index entry.
     pub m: u64,
-    /// U: entries in use, at least the highest slot with a scan.
+    /// U: entries in use, at least the highest slot with a scan. A job that ran to its end leaves just that slot, or 0;
+    /// after a cut, or from elsewhere, it may be higher.
     pub u: u64,
     /// The update counter: one higher at each job; after all ones comes zero. An old file's has 16 bits.
     pub counter: u32,

@@ -161,6 +161,30 @@ fn keep_and_clear_go_the_same_way() {
 }
 
 #[test]
+fn a_clear_of_the_highest_slot_writes_record_1_again() {
+    let mut card = Card::new(cells(), Fault::None);
+    drive::save(&mut card, 9, &scan(512, 3), &About::default()).unwrap();
+    card.asked.clear();
+    assert_eq!(drive::clear(&mut card, 9), Ok(Confirmed::Cleared { slot: 9 }));
+    let wanted = [
+        &["read 32 at 0", "read 1536 at 0"][..],
+        &["write 512 at 0", "flush", "write 512 at 1024", "flush", "write 512 at 0", "flush"],
+        &["read back 1536 at 0"],
+    ];
+    assert_eq!(card.asked, wanted.concat());
+    assert_eq!(sdd::open(&card.cells).unwrap().u, 1);
+    // however it fails, the file opens; once the index record is there the slot is empty
+    for turn in 0..3 {
+        for fault in [Fault::Write(turn), Fault::Flush(turn), Fault::LyingFlush(turn)] {
+            let mut card = Card::new(cells(), fault);
+            assert!(drive::clear(&mut card, 1).is_err(), "{fault:?}");
+            assert_eq!(sdd::open(&card.cells).unwrap().u, 1, "{fault:?}");
+            assert_eq!(sdd::show(&card.cells, 1).is_ok(), turn < 2, "{fault:?}");
+        }
+    }
+}
+
+#[test]
 fn a_device_that_fails_is_named_and_the_file_stays_good() {
     for turn in 0..4 {
         for fault in [Fault::Write(turn), Fault::Flush(turn)] {

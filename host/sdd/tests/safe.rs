@@ -111,6 +111,25 @@ fn parts_are_spans_of_what_was_lent() {
     assert_eq!(sdd::data(&scan), Ok(256..700));
     assert!(sdd::class(&scan, 14).unwrap().is_empty());
     let job = sdd::clear(&file, 1).unwrap();
-    assert_eq!(run(&mut file, &[], job), Step::Cleared { written: 2 });
+    assert_eq!((job.lowers(), job.records(512)), (true, 3));
+    assert_eq!(run(&mut file, &[], job), Step::Cleared { written: 3 });
     assert_eq!(sdd::list(&file), Ok(vec![]));
+}
+
+#[test]
+fn u_is_the_highest_slot_after_each_job() {
+    let mut file = file();
+    let small = scan(512, 3);
+    for (slot, u) in [(2, 2), (9, 9), (4, 9)] {
+        let job = sdd::save(&file, slot, &small, &About::default()).unwrap();
+        assert_eq!((job.lowers(), job.records(512)), (false, 3));
+        assert_eq!(run(&mut file, &small, job), Step::Saved { written: 3 });
+        assert_eq!(sdd::open(&file).unwrap().u, u);
+    }
+    for (slot, writes, u) in [(2, 2, 9), (9, 3, 4), (4, 3, 0)] {
+        let job = sdd::clear(&file, slot).unwrap();
+        assert_eq!((job.lowers(), job.records(512)), (writes == 3, writes));
+        assert_eq!(run(&mut file, &[], job), Step::Cleared { written: writes });
+        assert_eq!(sdd::open(&file).unwrap().u, u);
+    }
 }

@@ -15,6 +15,7 @@ pub fn round(world: &mut World) -> Round {
     jobs::lend_for(world, call);
     let before = shown(world, &shape)?;
     let writes = jobs::writes_of(world, &job);
+    let to_index = jobs::writes_to_index(world, &job);
     for cut in 0..=writes + 2 {
         world.set_file(file.clone());
         let mut stepped = job;
@@ -22,7 +23,10 @@ pub fn round(world: &mut World) -> Round {
             world.step(&mut stepped)?;
         }
         let now = shown(world, &shape)?;
-        demand_three(&job, cut < writes, &before, &now)?;
+        demand_three(&job, cut < to_index, &before, &now)?;
+        if world.call(Call::Open)?.why().number != 0 {
+            return Err(Disagreement { what: format!("demand 3: a file that opened does not after {cut} records") });
+        }
         histories::look(world, &shape)?;
     }
     Ok(())

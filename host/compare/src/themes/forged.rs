@@ -13,9 +13,13 @@ pub fn round(world: &mut World) -> Round {
     for _ in 0..world.rng.below(jobs::writes_of(world, &job) + 1) {
         world.step(&mut job)?;
     }
-    for field in 0..9 {
-        for _ in 0..2 {
+    for _ in 0..2 {
+        for field in 0..8 {
             let forged = forge(world, job, field);
+            try_and_undo(world, forged)?;
+        }
+        for field in [Beside::First, Beside::Lowers] {
+            let forged = forge_count(world, job, field);
             try_and_undo(world, forged)?;
         }
     }
@@ -70,10 +74,32 @@ fn forge(world: &mut World, job: Job, field: u64) -> Job {
             let at = if rng.percent(50) { rng.between(20, 31) } else { rng.below(32) } as usize;
             forged.boot[at] ^= 1 << rng.below(8);
         }
-        7 => forged.about[rng.below(54) as usize] ^= 1 << rng.below(8),
-        _ => {
-            forged.first = near(rng, &[n, n + 1, room + 1, room.saturating_sub(k) + 1]);
-            forged.written = near(rng, &[0, k, k + 1, k + 2]);
+        _ => forged.about[rng.below(54) as usize] ^= 1 << rng.below(8),
+    }
+    forged
+}
+
+/// What is forged beside the count of records written.
+#[derive(Clone, Copy)]
+enum Beside {
+    First,
+    Lowers,
+}
+
+/// The job with another count of records written and, beside it, another first record or another word on lowering U.
+fn forge_count(world: &mut World, job: Job, beside: Beside) -> Job {
+    let (n, l) = (get32(&world.file, 0), get32(&world.file, 8));
+    let (room, k) = (job.file_len / l, job.scan_len.div_ceil(l));
+    let rng = &mut world.rng;
+    let mut forged = job;
+    match beside {
+        Beside::First => {
+            forged.first = rng.pick(&[n, n + 1, room + 1, room.saturating_sub(k) + 1, u64::MAX]);
+            forged.written = rng.pick(&[0, k, k + 1, k + 2, u64::MAX]);
+        }
+        Beside::Lowers => {
+            forged.lowers = rng.pick(&[0, 1, 1, 2, 256, 1 << 32, (1 << 32) + 1, u64::MAX]);
+            forged.written = rng.pick(&[job.written, job.written, k, k + 1, k + 2, k + 3, k + 4]);
         }
     }
     forged
@@ -84,7 +110,8 @@ fn empty_scan(world: &mut World, job: Job) -> Round {
     world.set_scan(Vec::new());
     for saves in [0, 1] {
         for written in [0, 1, 2] {
-            try_and_undo(world, Job { saves, scan_len: 0, written, ..job })?;
+            let lowers = world.rng.below(2);
+            try_and_undo(world, Job { saves, scan_len: 0, written, lowers, ..job })?;
         }
     }
     Ok(())

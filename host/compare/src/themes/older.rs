@@ -51,9 +51,10 @@ pub fn steps(world: &mut World, shape: &Shape) -> Round {
         world.step(&mut job)?;
     }
     world.set_scan(Vec::new());
-    for written in 0..=2 {
+    for written in 0..=3 {
         let save = a_save(world, shape);
         let mut job = Job { saves: 0, first: 0, about: [0; 54], boot: world.rng.pick(&boot), written, ..save };
+        job.lowers = world.rng.below(2);
         world.step(&mut job)?;
     }
     Ok(())
@@ -66,7 +67,7 @@ fn a_save(world: &mut World, shape: &Shape) -> Job {
     let rng = &mut world.rng;
     let slot = rng.between(1, shape.capacity());
     let first = rng.between(shape.n + 1, last);
-    Job { saves: 1, slot, scan_len, file_len, first, written: 0, boot: [0; 32], about: make::about(rng) }
+    Job { saves: 1, slot, scan_len, file_len, first, about: make::about(rng), ..Job::ZEROS }
 }
 
 /// What a job may say of the first 32 bytes: mostly what they are; or with word 8 as in the current form, or all

@@ -27,5 +27,7 @@ pub fn round(world: &mut World) -> Round {
         jobs::run(world, job, Call::Keep)?;
     }
     world.call(Call::Open)?;
+    jobs::clear_highest(world)?;
+    world.call(Call::Open)?;
     Ok(())
 }

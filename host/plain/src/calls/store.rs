@@ -4,7 +4,7 @@ use crate::calls::look::occupied;
 use crate::ground::bytes::put32;
 use crate::ground::line::or;
 use crate::rules::boot::{Answer, Sizes, bootstrap, changeable, refuse};
-use crate::rules::index::{Judged, Run, judge, listed};
+use crate::rules::index::{Judged, Run, highest, judge, listed};
 use crate::rules::scan::rules;
 use face::{Job, Refusal, Stepped};
 
@@ -70,8 +70,9 @@ pub fn keep<const X: u32>(file: &[u8], scan: &[u8], about: &[u8; 54]) -> Answer<
 fn begin<const X: u32>(file: &[u8], judged: &Judged, slot: u64, scan: &[u8], about: &[u8; 54]) -> Answer<Job> {
     rules::<X>(scan, true)?;
     let scan_len = scan.len() as u64;
+    let lowers = u64::from(X == 200 && slot >= highest::<X>(file, &judged.sizes, judged.sizes.u));
     match place::<X>(file, judged, slot, records::<X>(scan_len, judged.sizes.l)) {
-        Some(first) => Ok(Job { saves: 1, scan_len, first, about: *about, ..job_on(file, slot) }),
+        Some(first) => Ok(Job { saves: 1, scan_len, first, lowers, about: *about, ..job_on(file, slot) }),
         None => refuse(13, 0),
     }
 }
@@ -108,8 +109,14 @@ pub fn clear<const X: u32>(file: &[u8], slot: u64) -> Answer<Job> {
     if X != 117 {
         changeable::<X>(file)?;
     }
-    let (_, run) = occupied::<X>(file, slot)?;
-    Ok(Job { first: or::<X, _>(66, 0, run.first), ..job_on(file, slot) })
+    let (sizes, run) = occupied::<X>(file, slot)?;
+    // the file opens, so that nothing stands above U
+    let is_highest = match X {
+        180 => true,
+        191 => slot == sizes.u,
+        _ => slot == highest::<X>(file, &sizes, sizes.u),
+    };
+    Ok(Job { first: or::<X, _>(66, 0, run.first), lowers: u64::from(is_highest), ..job_on(file, slot) })
 }
 
 /// The sizes where job, file and scan agree.
@@ -122,22 +129,51 @@ fn agree<const X: u32>(file: &[u8], scan: &[u8], job: &Job) -> Option<Sizes> {
         return None;
     }
     let compared = or::<X, _>(68, 32, 20);
-    if file[..compared] != job.boot[..compared] || job.saves > or::<X, _>(69, 1, 2) {
+    if file[..compared] != job.boot[..compared] || job.saves > or::<X, _>(69, 1, 2) || !may_lower::<X>(job) {
         return None;
     }
     if job.slot < 1 || job.slot > sizes.capacity() + or::<X, _>(70, 0, 1) {
         return None;
     }
+    let k = data_records::<X>(&sizes, job);
     if job.saves != 0 {
         let room = sizes.room::<X>(job.file_len);
-        let k = data_records::<X>(&sizes, job);
         let low = sizes.n + or::<X, _>(71, 1, 0);
         if (k == 0 && X != 72) || job.first < low || job.first > room || job.first - 1 + k > room + or::<X, _>(73, 0, 1)
         {
             return None;
         }
     }
-    (job.written <= data_records::<X>(&sizes, job) + or::<X, _>(74, 2, 3)).then_some(sizes)
+    let most = writes::<X>(file, &sizes, job, k) + or::<X, _>(74, 0, 1);
+    let most = if X == 197 && job.saves == 0 { most.max(3) } else { most };
+    (job.written <= most).then_some(sizes)
+}
+
+/// Whether the job's word on lowering U is one.
+fn may_lower<const X: u32>(job: &Job) -> bool {
+    let lowers = match X {
+        184 => job.lowers & u64::from(u32::MAX),
+        185 if job.saves != 0 => 0,
+        _ => job.lowers,
+    };
+    lowers <= or::<X, _>(183, 1, 2)
+}
+
+/// Whether the job writes record 1 a second time.
+fn lowers<const X: u32>(file: &[u8], sizes: &Sizes, job: &Job) -> bool {
+    match X {
+        177 => job.lowers == 1,
+        179 => false,
+        181 => job.saves == 0,
+        196 => job.saves == 0 && job.slot >= highest::<X>(file, sizes, sizes.capacity()),
+        209 => job.saves == 0 && job.lowers == 1 && job.slot >= highest::<X>(file, sizes, sizes.capacity()),
+        _ => job.saves == 0 && job.lowers == 1,
+    }
+}
+
+/// How many records the job has to write, of which k are data records.
+fn writes<const X: u32>(file: &[u8], sizes: &Sizes, job: &Job, k: u64) -> u64 {
+    k + 2 + u64::from(lowers::<X>(file, sizes, job))
 }
 
 fn data_records<const X: u32>(sizes: &Sizes, job: &Job) -> u64 {
@@ -156,34 +192,56 @@ pub fn step<const X: u32>(file: &mut [u8], scan: &[u8], job: &Job) -> Stepped {
         return refused(Refusal { number, value: 0 });
     };
     let k = data_records::<X>(&sizes, job);
-    if job.written >= k + 2 {
+    if job.written >= writes::<X>(file, &sizes, job, k) {
+        let done = if job.saves != 0 { 1 } else { 2 };
         return match confirm::<X>(file, scan, job, k) {
-            Ok(()) => Stepped {
-                why: Refusal::NONE,
-                done: if job.saves != 0 { 1 } else { 2 },
-                record: 0,
-                written: job.written,
-                job: *job,
-            },
+            Ok(()) => Stepped { why: Refusal::NONE, done, record: 0, written: job.written, job: *job },
             Err(why) => refused(why),
         };
     }
     let mut job = *job;
-    let boot_turn = or::<X, _>(75, k, k + 1);
-    let record = if job.written < k {
-        put_data::<X>(file, &sizes, scan, &job)
-    } else if job.written == boot_turn {
-        put_boot::<X>(file, &sizes, &job, k);
-        if X != 76 {
-            job.boot.copy_from_slice(&file[..32]);
-        }
-        1
-    } else {
-        put_entry::<X>(file, &sizes, &job, k);
-        sizes.home_record::<X>(job.slot)
-    };
+    let record = write::<X>(file, &sizes, scan, &mut job, k);
     job.written += 1;
+    job.lowers = match X {
+        186 if job.saves != 0 => 0,
+        187 if job.written == 3 && job.saves == 0 => 0,
+        _ => job.lowers,
+    };
     Stepped { why: Refusal::NONE, done: 0, record, written: job.written, job }
+}
+
+/// A record that follows the data.
+#[derive(Clone, Copy)]
+enum Turn {
+    Boot,
+    Entry,
+    Lowered,
+}
+
+/// Writes the record whose turn it is; answers which.
+fn write<const X: u32>(file: &mut [u8], sizes: &Sizes, scan: &[u8], job: &mut Job, k: u64) -> u64 {
+    if job.written < k {
+        return put_data::<X>(file, sizes, scan, job);
+    }
+    let order = match X {
+        75 => [Turn::Entry, Turn::Boot, Turn::Lowered],
+        178 if lowers::<X>(file, sizes, job) => [Turn::Boot, Turn::Lowered, Turn::Entry],
+        _ => [Turn::Boot, Turn::Entry, Turn::Lowered],
+    };
+    let turn = order[(job.written - k) as usize];
+    match turn {
+        Turn::Boot => put_boot::<X>(file, sizes, job, k),
+        Turn::Lowered => put_lowered::<X>(file, sizes, job),
+        Turn::Entry => {
+            put_entry::<X>(file, sizes, job, k);
+            return sizes.home_record::<X>(job.slot);
+        }
+    }
+    let forgets = X == 76 || (X == 182 && matches!(turn, Turn::Lowered));
+    if !forgets {
+        job.boot.copy_from_slice(&file[..32]);
+    }
+    1
 }
 
 fn put_data<const X: u32>(file: &mut [u8], sizes: &Sizes, scan: &[u8], job: &Job) -> u64 {
@@ -201,12 +259,80 @@ fn put_boot<const X: u32>(file: &mut [u8], sizes: &Sizes, job: &Job, k: u64) {
     if job.saves != 0 {
         let reached = job.first + k - 1 - sizes.n;
         put32(file, 4, or::<X, _>(78, sizes.d.max(reached), reached));
-        put32(file, 16, or::<X, _>(79, sizes.u.max(job.slot), job.slot));
     }
+    let u = used::<X>(file, sizes, job);
+    put32(file, 16, u);
+    let counts = match X {
+        81 => job.saves != 0,
+        202 => !lowers::<X>(file, sizes, job),
+        _ => true,
+    };
+    if counts {
+        put32(file, 20, counted::<X>(sizes));
+    }
+}
+
+fn counted<const X: u32>(sizes: &Sizes) -> u64 {
     let most = u64::from(u32::MAX);
-    let counter = or::<X, _>(80, (sizes.counter + 1) & most, (sizes.counter + 1).min(most));
-    if job.saves != 0 || X != 81 {
-        put32(file, 20, counter);
+    or::<X, _>(80, (sizes.counter + 1) & most, (sizes.counter + 1).min(most))
+}
+
+/// U as a job's first write of record 1 sets it: the highest slot with a scan, the job's own counted.
+fn used<const X: u32>(file: &[u8], sizes: &Sizes, job: &Job) -> u64 {
+    let (saves, slot) = (job.saves != 0, job.slot);
+    let used = highest::<X>(file, sizes, looked_at::<X>(sizes)).max(slot);
+    match X {
+        79 if saves => slot,
+        172 => used + 1,
+        173 => used - 1,
+        174 if saves => sizes.u.max(slot),
+        175 if !saves => sizes.u,
+        201 if !saves && used == slot => highest::<X>(file, sizes, slot - 1),
+        203 => used.max(sizes.u),
+        204 => highest::<X>(file, sizes, sizes.capacity()),
+        _ => used,
+    }
+}
+
+/// The last slot that counts for U: a step has not judged what stands above U.
+fn looked_at<const X: u32>(sizes: &Sizes) -> u64 {
+    match X {
+        190 => sizes.u,
+        211 => sizes.capacity() - 1,
+        _ => sizes.capacity(),
+    }
+}
+
+/// U as a clear's second write of record 1 sets it: the highest slot with a scan that is left.
+fn left<const X: u32>(file: &[u8], sizes: &Sizes, job: &Job) -> u64 {
+    let left = highest::<X>(file, sizes, looked_at::<X>(sizes));
+    let per_record = sizes.l / sizes.m;
+    match X {
+        188 => job.slot - 1,
+        189 => left.max(job.slot),
+        198 => left.max(1),
+        199 => left.min(sizes.u),
+        205 => listed::<X, false>(file, sizes).count() as u64,
+        210 if sizes.kind == 1 => sizes.u,
+        212 if left == 1 => 0,
+        213 if left <= (job.slot - 1) / per_record * per_record => 0,
+        _ => left,
+    }
+}
+
+/// A clear's second write of record 1: U alone.
+fn put_lowered<const X: u32>(file: &mut [u8], sizes: &Sizes, job: &Job) {
+    let u = left::<X>(file, sizes, job);
+    put32(file, 16, u);
+    if X == 176 || X == 202 {
+        put32(file, 20, counted::<X>(sizes));
+    }
+    if X == 195 {
+        let reached = listed::<X, false>(file, sizes).map(|(_, run)| run.last).max().unwrap_or(sizes.n);
+        put32(file, 4, reached.saturating_sub(sizes.n));
+    }
+    if X == 206 {
+        file[32..sizes.l as usize].fill(0);
     }
 }
 
@@ -246,6 +372,9 @@ fn confirm<const X: u32>(file: &[u8], scan: &[u8], job: &Job, k: u64) -> Answer<
         return Ok(());
     }
     let sizes = if X == 86 { bootstrap::<X>(file)? } else { judge::<X>(file)?.sizes };
+    if X == 207 && sizes.u != highest::<X>(file, &sizes, sizes.u) {
+        return refuse(15, 0);
+    }
     let (told, rest) = file[sizes.home(job.slot)..][..sizes.m as usize].split_at(62);
     let entry_stands = told == entry_bytes::<X>(job, k) && (is_zero(rest) || X == 87);
     let records_stand = k == 0 || {

@@ -65,6 +65,19 @@ fn runs<'a, const X: u32, const OLD: bool>(
     (from..).zip(entries.chunks_exact(sizes.m as usize).map(Run::of::<X, OLD>))
 }
 
+/// The highest slot up to `top` whose entry is not empty, or 0: from the top down, no farther than that one. The file
+/// need not open.
+pub fn highest<const X: u32>(file: &[u8], sizes: &Sizes, top: u64) -> u64 {
+    let entries = file[sizes.home(1)..sizes.home(top + 1)].chunks_exact(sizes.m as usize);
+    let is_empty = |run: &Run| match X {
+        192 => run.first == 0,
+        193 => run.last == 0,
+        194 => run.is_empty::<X>() || !run.in_range::<X>(sizes),
+        _ => run.is_empty::<X>(),
+    };
+    top - entries.rev().map(Run::of::<X, false>).take_while(is_empty).count() as u64
+}
+
 /// A file that opens: its sizes, and the records its scans take. There is no mark where each scan lies past those of
 /// the smaller slots, since then nothing has to be looked up.
 pub struct Judged {
@@ -132,6 +145,9 @@ fn judge_index<const X: u32, const OLD: bool>(file: &[u8], sizes: Sizes) -> Answ
     }
     if shared != 0 {
         return refuse(8, shared as u32);
+    }
+    if X == 208 && sizes.u > 0 && Run::at::<X>(file, &sizes, sizes.u).is_empty::<X>() {
+        return refuse(6, sizes.u as u32);
     }
     Ok(Judged { sizes, taken })
 }

@@ -7,6 +7,7 @@ use crate::say::failure::Failure;
 use crate::say::json::Json;
 use crate::say::out::Out;
 use crate::say::progress::Progress;
+use crate::say::used;
 use crate::words::args::Args;
 use sdd::{Listed, Refusal, Sizes};
 use std::path::Path;
@@ -105,8 +106,9 @@ impl Found {
     fn text(&self) -> String {
         let z = &self.sizes;
         let kind = if z.individual_records { "1 (individual records)" } else { "0 (data)" };
+        let used = used::too_high(z, &self.scans).map_or_else(String::new, |told| format!("\n{told}"));
         format!(
-            "{}\nN {} D {} L {} M {} U {} counter {} type {kind}, {} form\n{} of {} records are in use, {} are free, at most {} in a row; {} bytes in all",
+            "{}\nN {} D {} L {} M {} U {} counter {} type {kind}, {} form{used}\n{} of {} records are in use, {} are free, at most {} in a row; {} bytes in all",
             self.verdict(),
             z.n,
             z.d,
@@ -136,6 +138,7 @@ impl Found {
             ("free", z.room - self.in_use()),
             ("longest-free", self.longest_free()),
             ("scans", self.scans.len() as u64),
+            ("highest", used::highest(&self.scans)),
             ("bytes", self.len as u64),
         ];
         fields.extend(more.map(|(name, number)| (name, Json::number(number))));

@@ -9,6 +9,7 @@ use crate::say::json::Json;
 use crate::say::out::Out;
 use crate::say::progress::Progress;
 use crate::say::shown;
+use crate::say::used;
 use sdd::drive::{self, Confirmed, Doing, Dropped, Wrote};
 use sdd::{Entry, Job};
 use std::io;
@@ -173,9 +174,20 @@ impl<'a> Running<'a> {
                 (false, Some(_)) => format!(
                     "slot {slot} shows the new scan, which is not confirmed: list the file, and save the scan to slot {slot} once more; to keep it again would put it into two slots"
                 ),
-                (false, None) => format!("slot {slot} is empty now, which is not confirmed: list the file"),
+                (false, None) => {
+                    format!(
+                        "slot {slot} is empty now, which is not confirmed: list the file{}",
+                        used_in(window.bytes())
+                    )
+                }
             }
     }
+}
+
+/// What is left to be set right by another job: a clear that is dropped after its index record may not have lowered U.
+fn used_in(file: &[u8]) -> String {
+    let (Ok(sizes), Ok(scans)) = (sdd::open(file), sdd::list(file)) else { return String::new() };
+    used::too_high(&sizes, &scans).map_or_else(String::new, |told| format!("; {told}"))
 }
 
 fn no_memory(device: &Device, error: &io::Error) -> Failure {

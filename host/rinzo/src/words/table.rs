@@ -113,6 +113,14 @@ const KEEP_DETAILS: &str =
     "A keep that did not say `saved`: list the file first. Where the scan is listed, save it to that slot;
 to keep it again would put it into two slots, so a scan that the file has already needs --again.";
 
+const CLEAR_DETAILS: &str =
+    "A clear that did not say `cleared`: list the file first. Where the slot is listed, clear it again; where it is
+not, it is empty, and the next save or clear sets the used number right.";
+
+const USED_DETAILS: &str =
+    "After a cut the used number may be higher than the highest slot with a scan. Then a line says so; it is no
+damage, and the next save or clear sets it right.";
+
 /// Of every command that reads a scan.
 const READ_DETAILS: &str =
     "A scan that an old file says is not SDD version 1 is refused with 18; `rinzo show` writes its records out.";
@@ -155,7 +163,7 @@ pub static COMMANDS: [Command; 15] = [
         group: Group::Look,
         words: &["FILE..."],
         summary: "judge a file: its form, index and sizes, and with --scans its scans",
-        details: &["Scans that an old file says are not SDD version 1 are listed, and are no damage."],
+        details: &["Scans that an old file says are not SDD version 1 are listed, and are no damage.", USED_DETAILS],
         options: &[&[flag("scans", "read every scan too, and list each that breaks a rule; status 11 where one does")]],
     },
     Command {
@@ -218,7 +226,11 @@ pub static COMMANDS: [Command; 15] = [
         group: Group::Change,
         words: &["FILE", "SLOT"],
         summary: "empty a slot, after a question",
-        details: &["Where standard input is no terminal nobody can be asked, and --yes has to be given.", OLD_DETAILS],
+        details: &[
+            "Where standard input is no terminal nobody can be asked, and --yes has to be given.",
+            CLEAR_DETAILS,
+            OLD_DETAILS,
+        ],
         options: &[&[flag("yes", "clear the slot without a question")]],
     },
     Command {

@@ -28,16 +28,16 @@ returns-4 c = let a = c .before .before .before .before .before .before .before 
 records-requires : tie.Need-records-requires
 records-requires c κs = holds-boot _ _ (c .before .before .before .before .before .before .before .before .before .before .pre) (sym (c .before .before .before .before .before .boot-holds .ensures) ∙ not-false _ (c .before .before .before .before .if2 .left)) .ranged .shape
 
-add-if5 : tie.Need-add-if5
-add-if5 c = let a = c .before .before .before .before .before .before .before .before .before .before .before .args in omega (arith, few-records (a .z) (length (a .file .now)) (a .j) (sym (c .before .before .records-fit .ensures) ∙ not-false _ (c .before .if4 .left)))
+total-requires : tie.Need-total-requires
+total-requires c κs = let a = c .before .before .before .before .before .before .before .before .before .before .before .args in rw (c .records .ensures) (few-records (a .z) (length (a .file .now)) (a .j) (sym (c .before .before .records-fit .ensures) ∙ not-false _ (c .before .if4 .left)))
 
 returns-5 : tie.Need-returns-5
-returns-5 c = let a = c .before .before .before .before .before .before .before .before .before .before .before .before .before .args in too-many (a .file .now) (a .scan .now) (a .j) _ (c .before .before .before .before .before .before .before .before .before .before .before .before .before .pre) (omega arith)
+returns-5 c = let a = c .before .before .before .before .before .before .before .before .before .before .before .before .before .before .args in too-many (a .file .now) (a .scan .now) (a .j) _ (c .before .before .before .before .before .before .before .before .before .before .before .before .before .before .pre) (omega (arith, c .before .before .total .ensures, c .before .before .before .records .ensures))
 
 returns-6 : tie.Need-returns-6
-returns-6 c = let a = c .before .before .before .before .before .before .before .before .before .before .before .before .before .args in
-    all-agree (a .file .now) (a .scan .now) (a .j) _ (c .before .before .before .before .before .before .before .before .before .before .before .before .before .pre) (sym (c .before .before .before .before .before .before .before .before .before .before .same-file .ensures) ∙ not-false _ (c .before .before .before .before .before .before .before .before .before .if1 .left))
-    (sym (c .before .before .before .before .before .before .before .before .boot-holds .ensures) ∙ not-false _ (c .before .before .before .before .before .before .before .if2 .left)) (sym (c .before .before .before .before .before .before .has-slot .ensures) ∙ not-false _ (c .before .before .before .before .before .if3 .left)) (sym (c .before .before .before .before .records-fit .ensures) ∙ not-false _ (c .before .before .before .if4 .left)) (omega arith)
+returns-6 c = let a = c .before .before .before .before .before .before .before .before .before .before .before .before .before .before .args in
+    all-agree (a .file .now) (a .scan .now) (a .j) _ (c .before .before .before .before .before .before .before .before .before .before .before .before .before .before .pre) (sym (c .before .before .before .before .before .before .before .before .before .before .before .same-file .ensures) ∙ not-false _ (c .before .before .before .before .before .before .before .before .before .before .if1 .left))
+    (sym (c .before .before .before .before .before .before .before .before .before .boot-holds .ensures) ∙ not-false _ (c .before .before .before .before .before .before .before .before .if2 .left)) (sym (c .before .before .before .before .before .before .before .has-slot .ensures) ∙ not-false _ (c .before .before .before .before .before .before .if3 .left)) (sym (c .before .before .before .before .before .records-fit .ensures) ∙ not-false _ (c .before .before .before .before .if4 .left)) (omega (arith, c .before .before .total .ensures, c .before .before .before .records .ensures))
 
 pub agree-spec : {M : Type 1} → statement M
 agree-spec =
@@ -52,6 +52,6 @@ agree-spec =
     records-fit-requires
     returns-4
     records-requires
-    add-if5
+    total-requires
     returns-5
     returns-6)

@@ -1,4 +1,4 @@
-use Rattle.store.proofs.Rooms.{opens-shape, opens-long, has-slot}
+use Rattle.store.proofs.Rooms.{opens-shape, has-slot, clearing}
 use Rattle.store.proofs.Starting.{clear-out, clear-no-slot, clear-empty, clear-on}
 use mathlib.Core.Path.{sym, _∙_}
 use borrow.Author.Tests.{not-true, not-false}
@@ -22,7 +22,7 @@ returns-3 : tie.Need-returns-3
 returns-3 c = let s = c .before .before .before .before .before .before .before .before .before .before .before .args in clear-empty (s .file .now) (s .slot) _ (c .before .before .before .before .before .before .before .before .before .judge .ensures) _ _ (c .before .before .before .before .before .before .before .o .given .1) (sym (c .before .before .before .before .before .has-slot .ensures) ∙ not-false _ (c .before .before .before .before .if1 .left)) _ (c .before .before .before .run-at .ensures .is) _ (c .before .before .empty .ensures) (c .before .if2 .taken) (c .refused2 .ensures)
 
 clear-job-requires : tie.Need-clear-job-requires
-clear-job-requires c κs = opens-long (c .before .before .before .before .before .before .before .before .before .before .args .file .now) (sym (c .before .before .before .before .before .before .before .before .judge .ensures) ∙ c .before .before .before .before .before .before .o .given .1)
+clear-job-requires c κs = let s = c .before .before .before .before .before .before .before .before .before .before .args in clearing (s .file .now) (s .slot) (sym (c .before .before .before .before .before .before .before .before .judge .ensures) ∙ c .before .before .before .before .before .before .o .given .1) (sym (c .before .before .before .before .has-slot .ensures) ∙ not-false _ (c .before .before .before .if1 .left)) _ (c .before .before .run-at .ensures .is) _ (c .before .empty .ensures) (c .if2 .left)
 
 returns-4 : tie.Need-returns-4
 returns-4 c = let s = c .before .before .before .before .before .before .before .before .before .before .before .args in clear-on (s .file .now) (s .slot) _ (c .before .before .before .before .before .before .before .before .before .judge .ensures) _ _ (c .before .before .before .before .before .before .before .o .given .1) (sym (c .before .before .before .before .before .has-slot .ensures) ∙ not-false _ (c .before .before .before .before .if1 .left)) _ (c .before .before .before .run-at .ensures .is) _ (c .before .before .empty .ensures) (c .before .if2 .left) (c .clear-job .ensures)

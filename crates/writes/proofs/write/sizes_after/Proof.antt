@@ -15,10 +15,10 @@ sub-d-2 : tie.Need-sub-d-2
 sub-d-2 c = omega (arith, c .before .before .before .before .pre .placed (c .before .before .before .if1 .taken))
 
 returns : tie.Need-returns
-returns c = let a = c .before .before .before .before .before .before .before .args in cc (after-save (a .z) (a .j) (c .before .before .before .before .before .before .if1 .taken))
+returns c = let a = c .before .before .before .before .before .before .args in cc (after-save (a .z) (a .j) (a .u) (c .before .before .before .before .before .if1 .taken))
 
 returns-2 : tie.Need-returns-2
-returns-2 c = let a = c .before .before .args in c .renew2 .ensures ∙ after-clear (a .z) (a .j) (c .before .if1 .left)
+returns-2 c = let a = c .before .before .args in c .renew2 .ensures ∙ after-clear (a .z) (a .j) (a .u) (c .before .if1 .left)
 
 pub sizes-after-spec : {M : Type 1} → statement M
 sizes-after-spec =
@@ -28,7 +28,6 @@ sizes-after-spec =
     add-d
     sub-d
     sub-d-2
-    (λ c κs. search needs)
     (λ c κs. search needs)
     (λ c κs. search needs)
     returns

@@ -4,7 +4,7 @@ use Rattle.writes.proofs.write.write_boot.Statement.{statement}
 use Rattle.writes.proofs.write.write_boot.Tie as tie
 
 boot-bytes-requires : tie.Need-boot-bytes-requires
-boot-bytes-requires c κs = rw (c .sizes-after .ensures) (narrow-after _ _ (c .before .before .pre .held))
+boot-bytes-requires c κs = let p = c .before .before .pre in rw (c .sizes-after .ensures, p .1) (narrow-after _ _ _ (p .0 .held))
 
 returns : tie.Need-returns
 returns c = (cc, cc)

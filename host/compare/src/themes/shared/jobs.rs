@@ -58,8 +58,23 @@ pub fn run(world: &mut World, mut job: Job, call: Call) -> Round {
     Ok(())
 }
 
-/// How many records a job has to write.
-pub fn writes_of(world: &World, job: &Job) -> u64 {
+/// Clears the highest slot with a scan, if there is one.
+pub fn clear_highest(world: &mut World) -> Round {
+    let Some(slot) = slots::filled(world).last().copied() else { return Ok(()) };
+    let call = Call::Clear { slot };
+    match world.begin(call)? {
+        Some(job) => run(world, job, call),
+        None => Ok(()),
+    }
+}
+
+/// How many records a job has written once its index record is: the scan's, record 1 and that one.
+pub fn writes_to_index(world: &World, job: &Job) -> u64 {
     let l = u64::from(u32::from_be_bytes(world.file[8..12].try_into().unwrap()));
     job.scan_len.div_ceil(l) + 2
+}
+
+/// How many records a job has to write.
+pub fn writes_of(world: &World, job: &Job) -> u64 {
+    writes_to_index(world, job) + u64::from(job.saves == 0 && job.lowers == 1)
 }
