@@ -4,7 +4,7 @@ use crate::calls::look::occupied;
 use crate::ground::bytes::put32;
 use crate::ground::line::or;
 use crate::rules::boot::{Answer, Sizes, bootstrap, changeable, refuse};
-use crate::rules::index::{Judged, Run, highest, judge, listed};
+use crate::rules::index::{Judged, Run, highest, highest_above, judge, listed};
 use crate::rules::scan::rules;
 use face::{Job, Refusal, Stepped};
 
@@ -114,7 +114,7 @@ pub fn clear<const X: u32>(file: &[u8], slot: u64) -> Answer<Job> {
     let is_highest = match X {
         180 => true,
         191 => slot == sizes.u,
-        _ => slot == highest::<X>(file, &sizes, sizes.u),
+        _ => slot == highest_above::<X>(file, &sizes, slot, sizes.u),
     };
     Ok(Job { first: or::<X, _>(66, 0, run.first), lowers: u64::from(is_highest), ..job_on(file, slot) })
 }
@@ -280,7 +280,7 @@ fn counted<const X: u32>(sizes: &Sizes) -> u64 {
 /// U as a job's first write of record 1 sets it: the highest slot with a scan, the job's own counted.
 fn used<const X: u32>(file: &[u8], sizes: &Sizes, job: &Job) -> u64 {
     let (saves, slot) = (job.saves != 0, job.slot);
-    let used = highest::<X>(file, sizes, looked_at::<X>(sizes)).max(slot);
+    let used = highest_above::<X>(file, sizes, slot, looked_at::<X>(sizes));
     match X {
         79 if saves => slot,
         172 => used + 1,

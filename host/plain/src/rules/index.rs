@@ -68,7 +68,15 @@ fn runs<'a, const X: u32, const OLD: bool>(
 /// The highest slot up to `top` whose entry is not empty, or 0: from the top down, no farther than that one. The file
 /// need not open.
 pub fn highest<const X: u32>(file: &[u8], sizes: &Sizes, top: u64) -> u64 {
-    let entries = file[sizes.home(1)..sizes.home(top + 1)].chunks_exact(sizes.m as usize);
+    highest_above::<X>(file, sizes, 0, top)
+}
+
+/// The same, and no farther than the slot `from`: that one where every slot above it is empty.
+pub fn highest_above<const X: u32>(file: &[u8], sizes: &Sizes, from: u64, top: u64) -> u64 {
+    if top <= from {
+        return from;
+    }
+    let entries = file[sizes.home(from + 1)..sizes.home(top + 1)].chunks_exact(sizes.m as usize);
     let is_empty = |run: &Run| match X {
         192 => run.first == 0,
         193 => run.last == 0,
