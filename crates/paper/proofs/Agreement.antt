@@ -12,7 +12,6 @@ use Rattle.lent.specs.Lists.{all}
 use Rattle.lent.specs.Write.{write, pad}
 use Rattle.lent.proofs.Lists.{all-true, true-all, true≢false, not-so, asked, answered}
 use Rattle.lent.proofs.Sames.{same-true, true-same}
-use Rattle.lent.proofs.Parts.{part-in}
 use Rattle.lent.proofs.Writes.{write-nothing, take-write}
 use Rattle.paper.specs.declared.sizes.Sizes.{Sizes}
 use Rattle.paper.specs.declared.refusal.Refusal.{Refusal}
@@ -26,7 +25,7 @@ use Rattle.paper.specs.Store.{Write, perform, countOf, paddedOf, sizesAf
 use Rattle.paper.specs.Step.{isClear, agreeTests, agrees, writeAt, hasLeft, stepFile, placed, moved, stepJob, standTests, stands, confirmOf, stepAnswer, steppedOf, Agreeing, Standing}
 use Rattle.paper.proofs.Opening.{change-booted, booted-change}
 use Rattle.paper.proofs.Sizing.{times, home-in}
-use Rattle.paper.proofs.Encoding.{length-boot}
+use Rattle.paper.proofs.Encoding.{boot-there}
 use Rattle.paper.proofs.Free.{room-in}
 use Rattle.paper.proofs.Writes.{total-lowers, phases, writes-row, writes-boot, writes-entry, writes-lower, writes-past, row-saves, row-is}
 
@@ -173,9 +172,7 @@ module _ (f scan : List ℕ) (j : Job) (z : Sizes) (agree : agrees f scan j ≡ 
   Heads w = moved w j ≡ placed j (j .written + 1) (take 32 (perform f w))
 
   head-boot : (y : Sizes) → Heads (sizesWrite y)
-  head-boot y =
-      let n : 0 + length (bootBytes y) - 0 ≡ 32 = omega (arith, length-boot y) in
-      ap (placed j (j .written + 1)) (sym (ap (λ (k : ℕ). take k (write f 0 (bootBytes y))) (sym n) ∙ part-in f 0 (bootBytes y) (omega arith)))
+  head-boot y = ap (placed j (j .written + 1)) (sym (boot-there f y))
 
   head-other : (w : Write) → (w .record-no ≡ 1 → ⊥) → 32 ≤ w .at → w .at ≤ length f → Heads w
   head-other w n a l =

@@ -1,12 +1,12 @@
 -- The bootstrap law: record 1 written anew, with any D, U and counter that leave every listed scan in. The file opens with them, and shows the same.
 use Prim.Native.Nat.{ℕ, _+_, _-_, _≤_, _<_}
-use mathlib.Core.Path.{_≡_, sym, _∙_, ap, subst}
+use mathlib.Core.Path.{_≡_, sym, subst}
 use mathlib.Core.List.{List}
 use native.Mathlib.Omega.{arith}
-use lib.ListN.{length, take}
+use lib.ListN.{length}
 use Rattle.lent.specs.Part.{Alike}
 use Rattle.lent.specs.Write.{write}
-use Rattle.lent.proofs.Parts.{alike-after, part-in}
+use Rattle.lent.proofs.Parts.{alike-after}
 use Rattle.lent.proofs.Writes.{length-write}
 use Rattle.paper.specs.declared.sizes.Sizes.{Sizes}
 use Rattle.paper.specs.declared.sizes.Run.{Run}
@@ -111,12 +111,6 @@ module _ {f : List ℕ} {z : Sizes} {d u : ℕ} (S : Sound f z) (C : Covers z (r
         };
         laid = laid-same (C .slots) runs (laid-renewed (S .laid) C);
       }
-
-  -- the 32 bytes, as the next step asks for them
-  pub boot-there : take 32 (write f 0 (bootBytes (renewed z d u c))) ≡ bootBytes (renewed z d u c)
-  boot-there =
-      let e : 32 ≡ 0 + length (bootBytes y) - 0 = omega (arith, length-boot y) in
-      ap (λ (n : ℕ). take n g) e ∙ part-in f 0 (bootBytes y) (omega arith)
 
   pub boot-length : length (write f 0 (bootBytes (renewed z d u c))) ≡ length f
   boot-length = len

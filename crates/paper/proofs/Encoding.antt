@@ -25,6 +25,12 @@ pub length-boot : (z : Sizes) → length (bootBytes z) ≡ 32
 unfolding bootBytes
 length-boot z = length-numbers 4 (z .n ∷ z .d ∷ z .l ∷ z .m ∷ z .u ∷ z .counter ∷ z .kind ∷ 1 ∷ [])
 
+-- once they are written they are the file's first 32
+pub boot-there : (f : List ℕ) (z : Sizes) → take 32 (write f 0 (bootBytes z)) ≡ bootBytes z
+boot-there f z =
+    let n : 32 ≡ 0 + length (bootBytes z) - 0 = omega (arith, length-boot z) in
+    ap (λ (k : ℕ). take k (write f 0 (bootBytes z))) n ∙ part-in f 0 (bootBytes z) (omega arith)
+
 -- what the bytes state, whatever follows them
 pub version-back : (z : Sizes) (rest : List ℕ) → versionOf (bootBytes z ++ rest) ≡ 1
 unfolding bootBytes

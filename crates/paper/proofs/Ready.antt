@@ -28,8 +28,8 @@ use Rattle.paper.proofs.Encoding.{statedBy, length-boot}
 use Rattle.paper.proofs.Frame.{Frame, Kept, kept-refl, kept-then, frame-kept, frame-sound}
 use Rattle.paper.proofs.Free.{performs, performs-suc, Every, every-take, Free, frame-refl, frame-writes, used-room}
 use Rattle.paper.proofs.Used.{highest-le, highest-full, highest-above, highest-is, highest-kept}
-use Rattle.paper.proofs.Bootstrap.{Covers, covers-more, covers-kept, boot-kept, boot-renewed, boot-there, boot-length}
-use Rattle.paper.proofs.IndexLaw.{Alone, index-sound, index-length, index-head, run-new, run-other, shown-new, shown-other, entry-new, entry-other}
+use Rattle.paper.proofs.Bootstrap.{Covers, covers-more, covers-kept, boot-kept, boot-renewed, boot-length}
+use Rattle.paper.proofs.IndexLaw.{Alone, index-sound, index-length, run-new, run-other, shown-new, shown-other, entry-new, entry-other}
 
 -- what makes a job's writes safe on the file f: the data records are free, record 1's new D and U leave every scan in, the entry names records that no
 -- other slot has, which then hold the padded scan, and where U is not lowered at the end, the entry is a scan's or a higher slot has one
@@ -141,9 +141,6 @@ module _ {z : Sizes} {f scan : List ℕ} {j : Job} (Y : Ready z f scan j) where
   pub boot-len : length (fileAt f scan j (suc (countOf z j))) ≡ length f
   boot-len = rw boot-file (boot-length full covers (Y .current) (z′ .counter) counts ∙ rows-frame K (omega arith) .len)
 
-  pub boot-is : take 32 (fileAt f scan j (suc (countOf z j))) ≡ bootBytes (sizesAfter f z j)
-  boot-is = rw boot-file (boot-there full covers (Y .current) (z′ .counter) counts)
-
   -- ---- the slot's entry
 
   abbrev G : List ℕ
@@ -164,12 +161,6 @@ module _ {z : Sizes} {f scan : List ℕ} {j : Job} (Y : Ready z f scan j) where
 
   pub end-len : length (fileAt f scan j (suc (suc (countOf z j)))) ≡ length f
   end-len = rw entry-file (index-length boot-sound (Y .current) (j .slot) (Y .low) (used) E (Y .entry) (Y .lies) alone ∙ boot-len)
-
-  pub end-is : take 32 (fileAt f scan j (suc (suc (countOf z j)))) ≡ bootBytes (sizesAfter f z j)
-  end-is =
-      part-same G H 0 32 (end-len ∙ sym boot-len)
-      (subst (λ (x : List ℕ). Alike G x 0 32) (sym entry-file) (index-head boot-sound (Y .current) (j .slot) (Y .low) (used) E (Y .entry) (Y .lies) alone))
-      ∙ boot-is
 
   -- the job's slot has the entry, and shows the padded scan
   pub end-run : runOf (fileAt f scan j (suc (suc (countOf z j)))) z (j .slot) ≡ statedBy (entryAfter z j)

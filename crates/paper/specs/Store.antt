@@ -186,7 +186,7 @@ counterAfter z = (z .counter + 1) % 4294967296
 abbrev pub sizesAfter : List ℕ → Sizes → Job → Sizes
 sizesAfter f z j = renewed z (dataAfter z j) (usedAfter f z j) (counterAfter z)
 
--- record 1 as it stands in the file, with these sizes
+-- record 1 with these sizes
 abbrev pub sizesWrite : Sizes → Write
 sizesWrite y = record { at = 0; bytes = bootBytes y; record-no = 1 }
 
