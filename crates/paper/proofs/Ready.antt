@@ -157,17 +157,17 @@ module _ {z : Sizes} {f scan : List ℕ} {j : Job} (Y : Ready z f scan j) where
   alone t q a b ne n x y = subst (λ (r : Run). r .first ≤ q → q ≤ r .last → ⊥) (sym (boot-keeps .runs t a b)) (Y .alone t q a b ne n x y)
 
   pub end-sound : Sound (fileAt f scan j (suc (suc (countOf z j)))) (sizesAfter f z j)
-  end-sound = rw entry-file (index-sound boot-sound (Y .current) (j .slot) (Y .low) (used) E (Y .entry) (Y .lies) alone)
+  end-sound = rw entry-file (index-sound boot-sound (Y .current) (j .slot) (Y .low) used E (Y .entry) (Y .lies) alone)
 
   pub end-len : length (fileAt f scan j (suc (suc (countOf z j)))) ≡ length f
-  end-len = rw entry-file (index-length boot-sound (Y .current) (j .slot) (Y .low) (used) E (Y .entry) (Y .lies) alone ∙ boot-len)
+  end-len = rw entry-file (index-length boot-sound (Y .current) (j .slot) (Y .low) used E (Y .entry) (Y .lies) alone ∙ boot-len)
 
   -- the job's slot has the entry, and shows the padded scan
   pub end-run : runOf (fileAt f scan j (suc (suc (countOf z j)))) z (j .slot) ≡ statedBy (entryAfter z j)
-  end-run = rw entry-file (run-new boot-sound (Y .current) (j .slot) (Y .low) (used) E (Y .entry) (Y .lies) alone)
+  end-run = rw entry-file (run-new boot-sound (Y .current) (j .slot) (Y .low) used E (Y .entry) (Y .lies) alone)
 
   pub end-entry : entryAt (fileAt f scan j (suc (suc (countOf z j)))) z (j .slot) ≡ entryAfter z j
-  end-entry = rw entry-file (entry-new boot-sound (Y .current) (j .slot) (Y .low) (used) E (Y .entry) (Y .lies) alone)
+  end-entry = rw entry-file (entry-new boot-sound (Y .current) (j .slot) (Y .low) used E (Y .entry) (Y .lies) alone)
 
   all-rows : fileAt f scan j K ≡ performs f ds
   all-rows = rows K (omega arith) ∙ ap (performs f) (take-all K ds (omega (arith, length-rows f z j scan)))
@@ -182,7 +182,7 @@ module _ {z : Sizes} {f scan : List ℕ} {j : Job} (Y : Ready z f scan j) where
   pub end-shown : shownOf (fileAt f scan j (suc (suc (countOf z j)))) z (j .slot) ≡ paddedOf z j scan
   end-shown =
       rw entry-file
-      (shown-new boot-sound (Y .current) (j .slot) (Y .low) (used) E (Y .entry) (Y .lies) alone
+      (shown-new boot-sound (Y .current) (j .slot) (Y .low) used E (Y .entry) (Y .lies) alone
       ∙ part-same (performs f ds) G (startOf z (statedBy E .first)) (statedBy E .last * z .l) (boot-len ∙ sym (rw all-rows at (rows-frame K (omega arith) .len))) data-same
       ∙ rw (Y .from, Y .to) (Y .gives))
 
@@ -193,11 +193,11 @@ module _ {z : Sizes} {f scan : List ℕ} {j : Job} (Y : Ready z f scan j) where
 
   pub end-others : (t : ℕ) → 1 ≤ t → t ≤ capacityOf z → t ≢ j .slot → shownOf (fileAt f scan j (suc (suc (countOf z j)))) z t ≡ shownOf f z t
   end-others t a b ne =
-      rw entry-file (shown-other boot-sound (Y .current) (j .slot) (Y .low) (used) E (Y .entry) (Y .lies) alone t a b ne ∙ boot-keeps .shown t a b)
+      rw entry-file (shown-other boot-sound (Y .current) (j .slot) (Y .low) used E (Y .entry) (Y .lies) alone t a b ne ∙ boot-keeps .shown t a b)
 
   pub end-entries : (t : ℕ) → 1 ≤ t → t ≤ capacityOf z → t ≢ j .slot → entryAt (fileAt f scan j (suc (suc (countOf z j)))) z t ≡ entryAt f z t
   end-entries t a b ne =
-      rw entry-file (entry-other boot-sound (Y .current) (j .slot) (Y .low) (used) E (Y .entry) (Y .lies) alone t a ne ∙ boot-keeps .entries t a b)
+      rw entry-file (entry-other boot-sound (Y .current) (j .slot) (Y .low) used E (Y .entry) (Y .lies) alone t a ne ∙ boot-keeps .entries t a b)
 
   -- ---- the lowered U, where there is one, and then no more
 
@@ -205,19 +205,17 @@ module _ {z : Sizes} {f scan : List ℕ} {j : Job} (Y : Ready z f scan j) where
   stays-top : lowersOf j ≡ false → highest H z ≡ z′ .u
   stays-top t =
       let top : ℕ = highest f z in
-      let run : (s : ℕ) → 1 ≤ s → s ≤ capacityOf z → s ≢ j .slot → runOf H z s ≡ runOf f z s =
-      λ s a b ne. end-runs s a b ne in
       highest-is H z (z′ .u) (omega (arith, highest-le f z, Y .high))
       (λ h.
       ⊎-elim
       (λ (l : j .slot < top).
       let e : z′ .u ≡ top = omega arith in
-      rw e (subst (λ (r : Run). Full r) (sym (run top (omega arith) (highest-le f z) (λ q. omega arith))) (highest-full f z (omega arith))))
+      rw e (subst (λ (r : Run). Full r) (sym (end-runs top (omega arith) (highest-le f z) (λ q. omega arith))) (highest-full f z (omega arith))))
       (λ (l : top ≤ j .slot).
       let e : z′ .u ≡ j .slot = omega arith in
       rw e (subst (λ (r : Run). Full r) (sym end-run) (full-or (λ q. omega (arith, Y .settles t q)))))
       (lt-or-ge (j .slot) top))
-      (λ s a b. subst (λ (r : Run). r .first + r .last ≡ 0) (sym (run s (omega arith) b (λ q. omega arith))) (highest-above f z s (omega arith) b))
+      (λ s a b. subst (λ (r : Run). r .first + r .last ≡ 0) (sym (end-runs s (omega arith) b (λ q. omega arith))) (highest-above f z s (omega arith) b))
     where
       full-or : (statedBy E .first + statedBy E .last ≡ 0 → ⊥) → Full (statedBy E)
       full-or never = ⊎-elim (λ (h : Full (statedBy E)). h) (λ (h : statedBy E .first + statedBy E .last ≤ 0). absurd (never (omega arith))) (lt-or-ge 0 (statedBy E .first + statedBy E .last))
@@ -294,7 +292,7 @@ module _ {z : Sizes} {f scan : List ℕ} {j : Job} (Y : Ready z f scan j) where
       ∙ ap (λ (r : Run). part (startOf z (r .first)) (r .last * z .l) g) (sym (k .runs (j .slot) (Y .low) (Y .high) ∙ end-run))
       ∙ k .shown (j .slot) (Y .low) (Y .high) ∙ end-shown
 
-  -- and it is as record 1 first had it where no third write lowers it
+  -- and that is the U that record 1 first had, where no third write lowers it
   pub last-used : (i : ℕ) → countOf z j + 2 ≤ i → lowersOf j ≡ false → highest (fileAt f scan j i) z ≡ sizesAfter f z j .u
   last-used i h t = highest-kept (end-keeps i h) ∙ stays-top t
 
