@@ -1,21 +1,22 @@
 -- The laws of the test whether two runs are the same.
 use Prim.Native.Nat.{ℕ, suc, _+_, _-_, _≤_, _<_}
 use mathlib.Core.Path.{_≡_, refl, sym, _∙_, ap}
-use mathlib.Core.Bool.{true, false}
+use mathlib.Core.Bool.{Bool, true, false}
 use mathlib.Core.List.{List, [], _∷_, _++_}
 use native.Mathlib.Omega.{arith}
 use native.Mathlib.Numerals.{add-one}
 use native.Mathlib.Nat.{suc-inj, suc-ne-zero}
+use lib.Bits.{bitOr, or-zero-l, or-add-and, and-le-r}
 use lib.Dec.{eqb}
 use lib.ListN.{length, take, drop, getD, drop-of-length-le, length-drop, take-append-drop}
 use lib.Seq.{drop-cons, take-all, take-length, length-take-le}
-use borrow.Author.Tests.{eqb-true, eq-eqb, ne-eqb}
+use borrow.Author.Tests.{eqb-true, eqb-false, eq-eqb, ne-eqb}
 use Rattle.lent.specs.Lists.{also}
 use Rattle.lent.specs.Part.{part}
 use Rattle.lent.specs.Same.{same}
 use Rattle.lent.specs.Write.{zeros, pad}
 use Rattle.lent.proofs.Lists.{also-true, also-assoc, also-same, not-so}
-use Rattle.lent.proofs.Writes.{length-pad}
+use Rattle.lent.proofs.Writes.{length-zeros, getD-zeros, length-pad}
 
 pub same-refl : (a : List ℕ) → same a a ≡ true
 unfolding same
@@ -80,20 +81,26 @@ same-pad a n xs h e =
     ∙ same-append (take k a) (drop k a) xs (zeros (n - k)) (length-take-le k a (omega arith))
     ∙ rw (t, l) refl
 
--- a run of zeros: its first byte is zero, and each byte is as the one before it
-tail-zeros : (xs : List ℕ) (x : ℕ) → x ≡ 0 → same xs (zeros (length xs)) ≡ same xs (take (length xs) (x ∷ xs))
-unfolding same zeros
-tail-zeros [] x e = refl
-tail-zeros (y ∷ ys) x e = rw e (also-same (eqb y 0) _ _ (λ t. tail-zeros ys y (eqb-true y 0 t)))
+-- ---- zeros, by joining the bytes: the join is 0 and what is left is zeros
 
-pub same-zeros : (a : List ℕ) → 0 < length a → getD a 0 0 ≡ 0 → same a (zeros (length a)) ≡ same (part 1 (length a) a) (take (length a - 1) a)
-unfolding same zeros
-same-zeros [] h e = absurd (omega arith)
-same-zeros (x ∷ xs) h e =
-    let l : suc (length xs) - 1 ≡ length xs = omega arith in
-    rw (l, take-length, eq-eqb x 0 e) (tail-zeros xs x e)
+or-zero : (a b : ℕ) → also (eqb a 0) (eqb b 0) ≡ eqb (bitOr a b) 0
+or-zero a b = go (eqb a 0) refl
+  where
+    go : (t : Bool) → eqb a 0 ≡ t → also t (eqb b 0) ≡ eqb (bitOr a b) 0
+    go true e = rw (eqb-true a 0 e, or-zero-l b)
+    go false e = sym (ne-eqb (bitOr a b) 0 (λ q. eqb-false a 0 e (omega (arith, or-add-and a b, and-le-r a b))))
 
-pub same-some : (a : List ℕ) → 0 < length a → (getD a 0 0 ≡ 0 → ⊥) → same a (zeros (length a)) ≡ false
-unfolding same zeros
-same-some [] h e = absurd (omega arith)
-same-some (x ∷ xs) h e = rw (ne-eqb x 0 e)
+-- the bytes from byte i on
+abbrev pub zerosFrom : List ℕ → ℕ → Bool
+zerosFrom a i = same (drop i a) (drop i (zeros (length a)))
+
+pub zeros-step : (a : List ℕ) (m i : ℕ) → i < length a → also (eqb m 0) (zerosFrom a i) ≡ also (eqb (bitOr m (getD a i 0)) 0) (zerosFrom a (i + 1))
+unfolding same
+zeros-step a m i h =
+    rw (
+      add-one,
+      drop-cons a i 0 h,
+      drop-cons (zeros (length a)) i 0 (omega (arith, length-zeros (length a))),
+      getD-zeros (length a) i,
+      ← or-zero m (getD a i 0),
+    ) (also-assoc (eqb m 0) _ _)

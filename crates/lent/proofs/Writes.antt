@@ -23,6 +23,10 @@ getD-zeros zero i = refl
 getD-zeros (suc n) zero = refl
 getD-zeros (suc n) (suc i) = getD-zeros n i
 
+-- bytes that are all 0
+pub all-zeros : (n : ℕ) (xs : List ℕ) → length xs ≡ n → ((i : ℕ) → i < n → getD xs i 0 ≡ 0) → xs ≡ zeros n
+all-zeros n xs e h = ext-getD 0 xs (zeros n) (e ∙ sym (length-zeros n)) (λ i k. h i (rw e at k) ∙ sym (getD-zeros n i))
+
 pub table-zeros : (n : ℕ) → table n (λ i. 0) ≡ zeros n
 table-zeros n =
     let f : ℕ → ℕ = λ i. 0 in

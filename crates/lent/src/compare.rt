@@ -1,4 +1,4 @@
-//! Whether runs hold the same bytes. One loop compares.
+//! Whether runs hold the same bytes, or zeros. One loop compares, and one joins.
 ghost use mathlib.Core.Path.{_≡_};
 ghost use lib.ListN.{length};
 ghost use Rattle.lent.specs.Same.{same};
@@ -22,18 +22,17 @@ pub fn same(a: &[u8], b: &[u8]) -> bool
     ok
 }
 
-// All zeros: the first byte is, and each byte is as the one before it.
+// All zeros: the bytes are joined and tried once, with no early end either.
 pub fn all_zero(a: &[u8]) -> bool
     ensures { λ r. ⌜ r ≡ same (now (a .entry)) (zeros (length (now (a .entry)))) ⌝ }
 {
-    let n = a.len();
-    if n == 0 {
-        return true;
+    let mut met = 0u8;
+    let mut i = 0;
+    while i < a.len() {
+        met = met | a[i];
+        i += 1;
     }
-    if a[0] != 0 {
-        return false;
-    }
-    same(&a[1..], &a[..n - 1])
+    met == 0
 }
 
 // `src`, and zeros after it up to `n` bytes.

@@ -1,40 +1,44 @@
--- `lent::compare::all_zero`: no byte; a first byte that is not zero; else the run without its first byte against the run without its last.
-use lib.Seq.{length-take-le}
-use Rattle.lent.proofs.Sames.{same-end, same-zeros, same-some}
-use Rattle.lent.proofs.Writes.{length-zeros}
-use mathlib.Core.Path.{sym, _∙_}
-use Prim.Native.Nat.{_-_}
+-- `lent::compare::all_zero`: the bytes are zeros exactly where the join of those passed is 0 and those left are zeros.
+use mathlib.Core.Path.{_≡_, refl, sym, _∙_, ap}
+use Prim.Native.Nat.{_-_, _≤_}
 use native.Mathlib.Omega.{arith}
+use lib.Dec.{eqb}
 use lib.ListN.{length}
-use Rattle.lent.specs.Same.{same}
+use Rattle.lent.specs.Lists.{also}
 use Rattle.lent.specs.Write.{zeros}
+use Rattle.lent.proofs.Lists.{also-unit}
+use Rattle.lent.proofs.Sames.{same-end, zerosFrom, zeros-step}
+use Rattle.lent.proofs.Writes.{length-zeros}
 use borrow.Author.Needs.{needs}
 use Rattle.lent.proofs.compare.all_zero.Statement.{statement}
 use Rattle.lent.proofs.compare.all_zero.Tie as tie
 
-returns : tie.Need-returns
-returns c = let a = c .before .before .args .a .now in sym (same-end a (zeros (length a)) 0 (omega arith) (omega (arith, length-zeros (length a))))
+abbrev Inv-loop : tie.InvT-loop
+Inv-loop a met₀ i₀ met i = (i ≤ length a) × (zerosFrom a 0 ≡ also (eqb met 0) (zerosFrom a i))
 
-returns-2 : tie.Need-returns-2
-returns-2 c = sym (same-some (c .before .before .before .before .args .a .now) (omega arith) (c .if2 .taken))
+abbrev μ-loop : tie.MeasureT-loop
+μ-loop a met₀ i₀ met i = length a - i
 
-slice-aggregate-same : tie.Need-slice-aggregate-same
-slice-aggregate-same c = let a = c .before .before .before .before .before .before .args .a .now in sym (length-take-le (length a - 1) a (omega arith))
+loop-again : tie.Need-loop-again Inv-loop μ-loop
+loop-again c =
+    let l = c .before .before .loop in
+    (omega arith, l .inv .1 ∙ zeros-step _ (l .met) (l .i) (omega arith))
 
-returns-3 : tie.Need-returns-3
-returns-3 c = c .same .ensures ∙ sym (same-zeros (c .before .before .before .before .before .before .before .args .a .now) (omega arith) (c .before .before .before .if2 .left))
+returns : tie.Need-returns Inv-loop μ-loop
+returns c =
+    let a = c .before .before .args .a .now in
+    let l = c .before .loop in
+    sym (l .inv .1 ∙ ap (also (eqb (l .met) 0)) (same-end a (zeros (length a)) (l .i) (omega arith) (omega (arith, length-zeros (length a)))) ∙ also-unit (eqb (l .met) 0))
 
 pub all-zero-spec : {M : Type 1} → statement M
 all-zero-spec =
     tie.close
     (tie.spec
-    returns
-    (λ c. search needs)
-    returns-2
-    (λ c. search needs)
-    (λ c. search needs)
+    Inv-loop
+    μ-loop
+    (λ c. (omega arith, refl))
     (λ c. search needs)
     (λ c. search needs)
-    slice-aggregate-same
-    (λ c κs. search needs)
-    returns-3)
+    (λ c. search needs)
+    loop-again
+    returns)
