@@ -39,9 +39,9 @@
  * one is above every limit; the counter alone has 16 plain bits. The type is 0. Ranges and rules are
  * the current form's. Where an entry's magic number is 2 its scan is SDD version 1; where it is another
  * (1 is IEEE KEEP) the scan is listed and shown but not read (18). Old files are looked at, by open,
- * list, entry_at, show and read. They are not changed: save, keep and clear answer 2 and a step 14, and
- * blank makes files of the current form alone. to_current and to_old write a file's bootstrap and index in
- * the other form into other memory; the data section is the same in both.
+ * list, entry_at, show, read and gaps_zero. They are not changed: save, keep and clear answer 2 and a step
+ * 14, and blank makes files of the current form alone. to_current and to_old write a file's bootstrap and
+ * index in the other form into other memory; the data section is the same in both.
  *
  * The refusals by number. Each call's comment has its own in the order in which they are looked
  * for. A call that looks at a file has "open's own", 1 and then 3 to 8 as numbered; one that begins
@@ -62,8 +62,11 @@
  *   11  the scan breaks a rule; value: the rule, 1 to 6
  *   12  keep: no slot is empty
  *   13  no free records in a row that are enough
- *   14  step: the job and the file (or the scan) disagree
- *   15  confirming step: the entry or the records are not what the job gives
+ *   14  step: the job and the file (or the scan) disagree, or the job's own numbers cannot be: its data
+ *       records, or the old scan's that it is to zero, do not lie in N+1 to the room, or it has written more
+ *       than it has to write
+ *   15  confirming step: the entry or the scan's records are not what the job gives, or a record of the old
+ *       scan is not all zeros
  *   16  blank: sizes outside their ranges, or too large for what was lent
  *   17  list, to_current, to_old: what was lent for the answer is too short to hold it
  *   18  read: the entry of an old file says that the scan is not of version 1 (its magic is not 2)
@@ -145,6 +148,7 @@ enum { SDD_OTHER = 0, SDD_CONTINUUM = 1, SDD_SPECTRAL_LINE = 2 };
 #define SDD_STACK_STEP (168 * 1024)
 #define SDD_STACK_TO_CURRENT (168 * 1024)
 #define SDD_STACK_TO_OLD (168 * 1024)
+#define SDD_STACK_GAPS_ZERO (168 * 1024)
 
 /* Why a call was refused; {0, 0} where it was not. */
 typedef struct {
@@ -173,6 +177,12 @@ typedef struct {
   sdd_refusal why;
   uint64_t scans;
 } sdd_listed;
+
+/* Yes or no. */
+typedef struct {
+  sdd_refusal why;
+  uint64_t yes; /* 1 yes; 0 no, and where the call was refused */
+} sdd_answer;
 
 /* Bytes from .. to (not including `to`) of what was lent. */
 typedef struct {
@@ -205,7 +215,8 @@ typedef struct {
  *
  * To begin a job on a file is to drop every other one on it. Two that are stepped by turns are not always
  * refused: one that is begun between the other's record 1 and its index record takes the same data
- * records, and a scan is lost; and `lowers` says what was so when its own job was begun. */
+ * records, and a scan is lost; and `lowers`, `old_first` and `old_count` say what was so when their own job
+ * was begun, so that one of the two may zero records that the other has filled since. */
 typedef struct {
   uint64_t saves;     /* 1 a save or keep; 0 a clear, handed out with scan_len, first and about 0,
                          of which a step looks at neither first nor about; any other value: a step
@@ -220,6 +231,13 @@ typedef struct {
                          0. Of a clear made by hand it decides that write, whatever the slot is; of a
                          save 0 and 1 are not told apart, and it comes back as it was lent. Any other
                          value, of either: a step answers 14 */
+  uint64_t old_first; /* the records of the scan that is replaced or cleared, as the slot had them when the */
+  uint64_t old_count; /* job was begun: the first of them, and how many. The job's last writes put zeros
+                         over them. 0, 0 where the slot held nothing, so of every keep. Of a job made by
+                         hand they decide these writes, whatever the slot held, also where they name
+                         records of other scans or the job's own new ones. Where old_count is not 0 and
+                         one of these records lies outside N+1 to the room, a step answers 14; where it
+                         is 0, old_first is not looked at. Both come back as they were lent */
   uint8_t  boot[32];  /* the file's first 32 bytes as the job was begun on or last wrote them */
   uint8_t  about[54]; /* the entry's bytes 8 to 61 */
 } sdd_job;
@@ -281,30 +299,36 @@ sdd_refusal sdd_blank(uint8_t *file, size_t file_len, uint64_t n, uint64_t l, ui
 
 /* Begins to save a scan to a slot, whether or not the slot has one. Nothing is written yet: step the
  * job, with the same scan, until it is confirmed. The scan goes to the lowest free records in a row
- * that hold it; the slot's present scan stays whole and listed until the last record is written.
+ * that hold it; the slot's present scan stays whole and listed until the index record is written. Then
+ * its records are written over with zeros, one a step: the job's old_first and old_count say which.
  * Lent: the file, the scan and the entry's bytes 8 to 61, all to look at.
  * Refusals: 1 to 8 (2 on an old file), then 9, then 11 with the first of rules 1 to 6 that the scan
  * breaks, then 13. */
 sdd_begun sdd_save(const uint8_t *file, size_t file_len, uint64_t slot, const uint8_t *scan,
                    size_t scan_len, const uint8_t about[54]);
 
-/* Begins to keep a scan: a save to the lowest empty slot, which the job names.
+/* Begins to keep a scan: a save to the lowest empty slot, which the job names. It has no old scan to zero.
  * Refusals: 1 to 8 (2 on an old file), then 12, then 11, then 13. */
 sdd_begun sdd_keep(const uint8_t *file, size_t file_len, const uint8_t *scan, size_t scan_len,
                    const uint8_t about[54]);
 
 /* Begins to clear a slot. Nothing is written yet: step the job, with an empty scan. Where no higher slot has
- * a scan the job's `lowers` is 1, and it writes one record more.
+ * a scan the job's `lowers` is 1, and it writes one record more. The cleared scan's records, the job's
+ * old_first and old_count, are written over with zeros at its end.
  * Lent: the file, to look at. Refusals: 1 to 8 (2 on an old file), then 9, then 10. */
 sdd_begun sdd_clear(const uint8_t *file, size_t file_len, uint64_t slot);
 
-/* Does the next step of a job. Each step writes at most one record: the scan's k records (the last
- * padded with zeros), then record 1, then the slot's entry in its index record; of a clear record 1
- * and the index record alone, and where its `lowers` is 1 record 1 again. `record` says which, and
- * `written` how many so far. The step after the last write writes nothing, judges the file and compares
- * what the job should have left there: it alone answers Saved or Cleared. So a save is confirmed at step
- * k+3, a clear at step 3, and one whose `lowers` is 1 at step 4. A confirmed job stepped again is judged
- * again.
+/* Does the next step of a job. Each step writes at most one record, in this order:
+ * - of a save the scan's k records (the last padded with zeros);
+ * - record 1;
+ * - the slot's entry in its index record;
+ * - of a clear whose `lowers` is 1, record 1 again;
+ * - zeros over each of the old_count records from old_first on, the lowest first.
+ * `record` says which, and `written` how many so far. The step after the last write writes nothing, judges
+ * the file and compares what the job should have left there: the entry, the scan's records, and zeros in the
+ * old scan's. It alone answers Saved or Cleared. So a save is confirmed at step k+3+old_count, and a clear at
+ * step 3+lowers+old_count. A confirmed job stepped again is judged again: one that zeroed an old scan gets 15
+ * once a later save's data stand in those records (and 14 once that save has written record 1).
  *
  * The first write of record 1 puts the counter one higher, raises D to the end of a save's records, and
  * puts U at the highest slot with a scan, the job's own counted. That is the highest slot up to capacity,
@@ -316,20 +340,27 @@ sdd_begun sdd_clear(const uint8_t *file, size_t file_len, uint64_t slot);
  * A step does no input or output: it writes into lent memory, and Saved is said of lent memory. Two
  * things are the caller's, and without them Saved means nothing:
  * - write the record that a step names to the device and make it durable before the next step;
- * - lend the confirming step bytes READ BACK from the device, past the system's cache: records 1 to N
- *   and the scan's records, in memory of the file's length. On the memory that the steps themselves
- *   wrote, it answers Saved whatever became of the file.
+ * - lend the confirming step bytes READ BACK from the device, past the system's cache: records 1 to N,
+ *   the scan's records and the old scan's, in memory of the file's length. On the memory that the steps
+ *   themselves wrote, it answers Saved whatever became of the file. Fill that memory with something else
+ *   before it is read into, and with no zeros where the old scan's records go: a read that fills nothing in
+ *   would pass for a device that has zeros there.
  * host/example/save.c does both.
  *
  * If the machine stops between two steps, or the job
  * is dropped, the file still opens, and the slot shows its old scan until the index record is
- * written and the new one from then on. U may then be too high, until the next job.
+ * written and the new one from then on. U may then be too high, until the next job. And records that belong
+ * to no scan may be left with bytes in them: the new scan's until the index record is written, the old one's
+ * from then on. No later job zeroes these, since each zeroes the run that its own slot had; sdd_gaps_zero asks
+ * for them.
  *
  * Lent: the file, in which the one record is written where the step is accepted; the scan the job
  * was begun with (empty for a clear), to look at; the job as the last step handed it back.
  * Refusals: 14 first, and always on a file of the old form, whatever the job says; also where `saves` or
- * `lowers` is neither 0 nor 1, or `written` is above the number of records that the job has to write (k+2 of
- * a save, 2 or 3 of a clear). The confirming step then also open's own, then 15. */
+ * `lowers` is neither 0 nor 1, where old_count is not 0 and the run old_first to old_first+old_count-1 does
+ * not lie in N+1 to the room (the numbers are taken as they are: no sum wraps round), or where `written` is
+ * above the number of records that the job has to write (k+2+old_count of a save, 2+lowers+old_count of a
+ * clear). The confirming step then also open's own, then 15. */
 sdd_stepped sdd_step(uint8_t *file, size_t file_len, const uint8_t *scan, size_t scan_len,
                      sdd_job job);
 
@@ -357,6 +388,15 @@ sdd_refusal sdd_to_current(const uint8_t *file, size_t file_len, uint8_t *out, s
  * the old form already; then 19 where it has, where it is of type 1, or where D, a scan's first or its last
  * record is above 32,767 or the counter above 65,535. */
 sdd_refusal sdd_to_old(const uint8_t *file, size_t file_len, uint8_t *out, size_t out_len);
+
+/* Asks whether the gaps are zeros: yes is 1 where every one of the records N+1 to N+D that belongs to no
+ * listed scan is all zeros, else 0. Records beyond N+D are not looked at. A file of either form is asked.
+ * Jobs as save, keep and clear hand them out, run to their confirmation one after the other, do not turn a
+ * yes into a no. One that is cut or dropped may, with what it has left of the old scan or of the new one, and
+ * no later save, keep or clear makes up for it but by chance. What is left there is no damage, but whoever
+ * has the file can read it.
+ * Lent: the file, to look at, with all of records 1 to N+D. Refusals: open's own, 1 and then 3 to 8. */
+sdd_answer sdd_gaps_zero(const uint8_t *file, size_t file_len);
 
 #ifdef __cplusplus
 }

@@ -20,14 +20,15 @@ int printf(const char *format, ...);
 void exit(int status);
 
 enum { PROT_NONE = 0, PROT_READ = 1, PROT_READ_WRITE = 3, MAP_PRIVATE = 2, MAP_ANONYMOUS = 32 };
-enum { CALLS = 14, UNTOUCHED = 0x5a };
+enum { CALLS = 15, UNTOUCHED = 0x5a };
 /* a file above this size is not compared whole after every call, but when the next one comes */
 #define LARGE ((size_t)1 << 20)
 /* a multiple of every page size there is, on whatever machine the emulator runs */
 #define PAGE ((size_t)65536)
 
 static const char *const NAMES[CALLS] = {"open", "list",  "entry", "show", "read",  "class",      "data",
-                                         "blank", "save", "keep",  "clear", "step", "to_current", "to_old"};
+                                         "blank", "save", "keep",  "clear", "step", "to_current", "to_old",
+                                         "gaps_zero"};
 
 static void stop(const char *why) {
   printf("replay: %s\n", why);
@@ -97,7 +98,8 @@ static void put(const void *field, size_t len) {
 
 static void put_job(const sdd_job *job) {
   PUT(job->saves), PUT(job->slot), PUT(job->scan_len), PUT(job->file_len), PUT(job->first);
-  PUT(job->written), PUT(job->lowers), PUT(job->boot), PUT(job->about);
+  PUT(job->written), PUT(job->lowers), PUT(job->old_first), PUT(job->old_count);
+  PUT(job->boot), PUT(job->about);
 }
 
 static void put_opened(sdd_opened a) {
@@ -119,6 +121,8 @@ static void put_stepped(sdd_stepped a) {
 
 static void put_listed(sdd_listed a) { PUT(a.why), PUT(a.scans); }
 
+static void put_answer(sdd_answer a) { PUT(a.why), PUT(a.yes); }
+
 /* every NaN value counts as one: its bits are compared in their own field */
 static void put_entry(sdd_entry a) {
   uint32_t single = 0x7fc00000;
@@ -139,6 +143,7 @@ static sdd_job read_job(void) {
   sdd_job job;
   job.saves = number(), job.slot = number(), job.scan_len = number();
   job.file_len = number(), job.first = number(), job.written = number(), job.lowers = number();
+  job.old_first = number(), job.old_count = number();
   memcpy(job.boot, bytes(32), 32);
   memcpy(job.about, bytes(54), 54);
   return job;
@@ -181,6 +186,7 @@ static void make(int call) {
   case 11: put_stepped(sdd_step(file.at, file.len, scan.at, scan.len, read_job())); break;
   case 12: put_refusal(sdd_to_current(file.at, file.len, second.at, second.len)); break;
   case 13: put_refusal(sdd_to_old(file.at, file.len, second.at, second.len)); break;
+  case 14: put_answer(sdd_gaps_zero(file.at, file.len)); break;
   default: stop("the file of cases has a call that is not known");
   }
 }

@@ -81,19 +81,21 @@ static sdd_job run(sdd_job steps, size_t scan_len) {
   return steps;
 }
 
-/* A save, and then a clear of its slot made by hand, which lowers U past the gap below it. */
+/* A save, and then a clear of its slot made by hand, which lowers U past the gap below it and zeroes the scan. */
 static void step(void) {
   const sdd_job none = {0};
   int i;
   job = run(job, SCAN);
   clearing = none;
   clearing.slot = 4096, clearing.file_len = LEN, clearing.lowers = 1;
+  clearing.old_first = job.first, clearing.old_count = SCAN / L;
   for (i = 0; i < 32; i++) clearing.boot[i] = job.boot[i];
   clearing = run(clearing, 0);
 }
 
 static void to_current(void) { sdd_to_current(file, LEN, second, N * L); }
 static void to_old(void) { sdd_to_old(file, LEN, second, N * L); }
+static void gaps_zero(void) { sdd_gaps_zero(file, LEN); }
 
 static const struct {
   const char *name;
@@ -113,6 +115,7 @@ static const struct {
     {"step", step, SDD_STACK_STEP},
     {"to_current", to_current, SDD_STACK_TO_CURRENT},
     {"to_old", to_old, SDD_STACK_TO_OLD},
+    {"gaps_zero", gaps_zero, SDD_STACK_GAPS_ZERO},
     {"blank", blank, SDD_STACK_BLANK},
 };
 
@@ -155,5 +158,5 @@ int main(void) {
              holds ? "" : ": TOO MUCH");
     }
   }
-  return wrong != 0 || job.written != 130 || clearing.written != 3;
+  return wrong != 0 || job.written != 130 || clearing.written != 3 + SCAN / L;
 }

@@ -30,7 +30,8 @@ typedef struct {
   size_t len;
 } window;
 
-/* Ends without a confirmation; the file opens all the same, and every other slot shows what it did. */
+/* Ends without a confirmation; the file opens all the same, and every other slot shows what it did. Records that
+ * belong to no scan may then hold bytes of the old scan or of the new one: sdd_gaps_zero asks for them. */
 static void stop(const char *what) {
   fprintf(stderr, "not saved: %s%s%s\n", what, errno ? ": " : "", errno ? strerror(errno) : "");
   exit(74);
@@ -86,11 +87,12 @@ static void write_record(const window *file, uint64_t record, uint64_t l) {
 }
 
 /* Reads records back from the device: with O_DIRECT, and where the file system has no such thing, by
- * a plain read once the system was told to forget what it holds in memory. */
+ * a plain read once the system was told to forget what it holds in memory. That memory is filled with
+ * other bytes before: with no zeros, which are what an old scan's records should hold. */
 static void read_back(const window *file, const char *path, uint64_t first, uint64_t count, uint64_t l) {
   size_t from = (first - 1) * l / BLOCK * BLOCK, to = ((first - 1 + count) * l + BLOCK - 1) / BLOCK * BLOCK;
   int direct = open(path, O_RDONLY | O_DIRECT);
-  memset(file->bytes + from, 0, to - from);
+  memset(file->bytes + from, 0xa5, to - from);
   posix_fadvise(file->fd, 0, 0, POSIX_FADV_DONTNEED);
   if (!(direct >= 0 && fill(file, direct, from, to)) && !fill(file, file->fd, from, to)) stop("reading back");
   if (direct >= 0) close(direct);
@@ -101,8 +103,8 @@ static void run(const window *file, const char *path, sdd_opened z, const uint8_
   uint64_t k = (len + z.l - 1) / z.l;
   sdd_stepped stepped;
   struct stat about;
-  /* the scan's records, record 1 with its U and D, and the slot's index record */
-  while (job.written < k + 2) {
+  /* the scan's records, record 1 with its U and D, the slot's index record, and zeros over the scan that it had */
+  while (job.written < k + 2 + job.old_count) {
     stepped = sdd_step(file->bytes, file->len, scan, len, job);
     accept_or_stop(stepped.why);
     write_record(file, stepped.record, z.l);
@@ -111,6 +113,7 @@ static void run(const window *file, const char *path, sdd_opened z, const uint8_
   if (fstat(file->fd, &about) != 0 || (size_t)about.st_size != file->len) stop("the file's length has changed");
   read_back(file, path, 1, z.n, z.l);
   read_back(file, path, job.first, k, z.l);
+  if (job.old_count > 0) read_back(file, path, job.old_first, job.old_count, z.l);
   stepped = sdd_step(file->bytes, file->len, scan, len, job);
   accept_or_stop(stepped.why);
   if (stepped.done != SDD_SAVED) stop("the last step confirmed nothing");

@@ -18,9 +18,10 @@ use Rattle.paper.specs.declared.answer.Opened.the-variants.{Opens}
 use Rattle.paper.specs.declared.job.Job.{Job}
 use Rattle.paper.specs.declared.job.Begun.{Begun}
 use Rattle.paper.specs.Sizes.{sizesOf, renewed, capacityOf, roomOf}
-use Rattle.paper.specs.Index.{runOf, empty, Full, openOf}
-use Rattle.paper.specs.Store.{recordsFor, freeAt, freePlace, emptySlot, highest, placeFor, saveJob, keepSlot, saveOf, keepOf, clearOf, countOf, counterAfter, sizesAfter, entryAfter, totalOf}
-use Rattle.paper.proofs.Opening.{empty-facts, full-facts, open-sound, sound-open}
+use Rattle.paper.specs.Index.{runOf, empty, Full, openOf, Lies}
+use Rattle.paper.specs.Look.{InIndex}
+use Rattle.paper.specs.Store.{recordsFor, freeAt, freePlace, emptySlot, highest, manyOf, placeFor, saveJob, clearJob, keepSlot, saveOf, keepOf, clearOf, countOf, counterAfter, sizesAfter, entryAfter, changeOf}
+use Rattle.paper.proofs.Opening.{empty-facts, full-facts, inside-all, open-sound, sound-open}
 use Rattle.paper.proofs.Rules.{keeps-lengths}
 use Rattle.paper.proofs.Encoding.{statedBy, zeros-state}
 use Rattle.paper.proofs.Free.{facts-free, place-free}
@@ -29,7 +30,7 @@ use Rattle.paper.proofs.Begins.{Placed, save-taken, taken-save, keep-taken, tak
 use Rattle.paper.proofs.Ready.{Ready, fileAt, rows-sound, boot-sound, end-sound, end-run, end-runs, end-keeps, last-sound, last-used}
 use Rattle.demands.specs.Causes.{FreeRun}
 use Rattle.demands.specs.History.{Op, save, keep, clear, begin, scanOf, lowersBy, takes, State, stateAfter}
-use Rattle.demands.specs.Begun.{SaveJob, LowestEmpty, ClearJob, Begins, grown, leftBelow, lowered, RecordOne}
+use Rattle.demands.specs.Begun.{Carries, SaveJob, LowestEmpty, ClearJob, Begins, grown, leftBelow, lowered, RecordOne}
 use Rattle.demands.proofs.Start.{Starts, starts, accepts, steps-are}
 use Rattle.demands.proofs.Refusing.{run-free, free-run}
 
@@ -45,13 +46,19 @@ place-lowest f scan o long ne r h =
     absurd (true≢false (facts-free z (length f) (runOf f z) K r (run-free f scan (open-sound o) long r h)) (l .below r (omega (arith, h .past)) a)))
     (λ (a : placeFor f (length scan) ≤ r). a) (lt-or-ge r (placeFor f (length scan)))
 
-save-job-is : (f : List ℕ) (slot : ℕ) (scan about : List ℕ) → openOf f ≡ Opens (sizesOf f) → Placed f scan → SaveJob f slot scan about (saveJob f slot scan about)
-save-job-is f slot scan about o p =
+-- the old run, as a job of either kind has it
+carries : (run : Run) (z : Sizes) → Lies z run → (j : Job) → j .old ≡ run .first → j .many ≡ manyOf run → Carries run j
+carries run z l j p q =
+    record { held = λ h. (p, omega (arith, l .low h, l .order h)); nothing = λ h. (omega arith, omega arith) }
+
+save-job-is : (f : List ℕ) (slot : ℕ) (scan about : List ℕ) → openOf f ≡ Opens (sizesOf f) → InIndex (sizesOf f) slot → Placed f scan → SaveJob f slot scan about (saveJob f slot scan about)
+save-job-is f slot scan about o i p =
     let long = keeps-lengths (p .keeps) .long in
     record {
       fresh = record { slot-is = refl; size-is = refl; span-is = refl; none-written = refl; begun-on = refl };
       saves = refl;
       no-third = refl;
+      carries = carries (runOf f (sizesOf f) slot) (sizesOf f) (inside-all (open-sound o .laid) slot (i .low) (i .high)) (saveJob f slot scan about) refl refl;
       about-is = refl;
       free =
           free-run f scan (open-sound o) long (placeFor f (length scan))
@@ -75,11 +82,11 @@ begins =
     record {
       save-job = λ f slot scan about e.
           let t = save-taken f slot scan about e in
-          subst (λ (b : Begun). SaveJob f slot scan about (b .job)) (sym (taken-save f slot scan about t)) (save-job-is f slot scan about (sound-open (t .may .sound)) (t .placed));
+          subst (λ (b : Begun). SaveJob f slot scan about (b .job)) (sym (taken-save f slot scan about t)) (save-job-is f slot scan about (sound-open (t .may .sound)) (t .slotted) (t .placed));
       keep-job = λ f scan about e.
           let t = keep-taken f scan about e in
           subst (λ (b : Begun). SaveJob f (b .job .slot) scan about (b .job) × LowestEmpty f (b .job .slot)) (sym (taken-keep f scan about t))
-          (save-job-is f (keepSlot f) scan about (sound-open (t .may .sound)) (t .placed), lowest-empty f (t .slotted));
+          (save-job-is f (keepSlot f) scan about (sound-open (t .may .sound)) (keep-slotted f (t .slotted)) (t .placed), lowest-empty f (t .slotted));
       clear-job = λ f slot e.
           let t = clear-is-taken f slot e in
           subst (λ (b : Begun). ClearJob f slot (b .job)) (sym (taken-is-clear f slot t))
@@ -90,6 +97,7 @@ begins =
             no-about = refl;
             third = λ n. eq-eqb slot (highest f (sizesOf f)) (sym (highest-is f (sizesOf f) slot (t .slotted .high) (λ h. t .full) n));
             no-third = λ s a b h. ne-eqb slot (highest f (sizesOf f)) (λ q. omega (arith, full-highest f (sizesOf f) s b h));
+            carries = carries (runOf f (sizesOf f) slot) (sizesOf f) (inside-all (t .may .sound .laid) slot (t .slotted .low) (t .slotted .high)) (clearJob f slot) refl refl;
           });
     }
 
@@ -158,7 +166,7 @@ module _ {f : List ℕ} {z : Sizes} {op : Op} (B : Starts z f op (begin f op .jo
       (λ (h : countOf z j + 2 ≤ i). let e : i ≡ suc (suc (countOf z j)) = omega arith in rw e (end-sound Y .booted .reads))
       (lt-or-ge i (countOf z j + 2))
 
-  sizes-ended : (b : Bool) → lowersBy f z op ≡ b → (i : ℕ) → totalOf z j ≤ i → sizesOf (F i) ≡ cond b (lowered f z op) (grown f z op)
+  sizes-ended : (b : Bool) → lowersBy f z op ≡ b → (i : ℕ) → changeOf z j ≤ i → sizesOf (F i) ≡ cond b (lowered f z op) (grown f z op)
   sizes-ended true e i h =
       let g = sizes-are f z op t in
       last-sound Y i h .booted .reads
@@ -175,5 +183,5 @@ record-one f z o op w t =
     record {
       before = λ i h. ap sizesOf (file i) ∙ rows-sound (B .begins .ready) i (omega (arith, B .count)) .booted .reads;
       after = λ i a b. ap sizesOf (file i) ∙ sizes-after B t i (omega (arith, B .count)) (omega (arith, B .count)) ∙ sizes-are f z op t;
-      ended = λ i h. ap sizesOf (file i) ∙ sizes-ended B t (lowersBy f z op) refl i (omega (arith, B .total));
+      ended = λ i h. ap sizesOf (file i) ∙ sizes-ended B t (lowersBy f z op) refl i (omega (arith, B .change));
     }

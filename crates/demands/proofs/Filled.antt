@@ -25,7 +25,7 @@ use Rattle.paper.specs.Sizes.{sizesOf, wordAt, counterOf, typeOf, bootBytes, ca
 use Rattle.paper.specs.Index.{runOf, empty, inData, badAt, aboveAt, shares, sharer, sharedAt, slotsOf, openOf, Sound, Changeable}
 use Rattle.paper.specs.Entry.{kindOf, magicOf, positionOf, versionOne, fieldsOf}
 use Rattle.paper.specs.Scan.{classesOf, startsOf, rule1, rule2, rule3, rule4, rule5, rule6, rising, headlen, datalen, ruledOf}
-use Rattle.paper.specs.Store.{blankSizes, blankOf, blankFile, recordsFor, freePlace, saveOf}
+use Rattle.paper.specs.Store.{blankSizes, blankOf, blankFile, recordsFor, freePlace, manyOf, saveOf}
 use Rattle.paper.specs.Look.{foundOf, showOf, readOf, InIndex}
 use Rattle.paper.specs.Convert.{bootAs, scanAs, entryAs, entriesAs, recordsAs, otherMagic, wideRun, convertOf, convertedOut, joined}
 use Rattle.paper.proofs.Sizing.{head-long}
@@ -33,7 +33,7 @@ use Rattle.paper.proofs.Opening.{sound-open}
 use Rattle.paper.proofs.Encoding.{length-boot}
 use Rattle.paper.proofs.Begins.{SaveTaken, taken-save}
 use Rattle.paper.proofs.Blank.{blank-facts, facts-blank, blank-file, blank-sound, blank-length, first-place}
-use Rattle.demands.specs.History.{save, takes, isAccepted, slotOf, stateAfter, answerAfter}
+use Rattle.demands.specs.History.{save, takes, isAccepted, slotOf, writesBy, stateAfter, answerAfter}
 use Rattle.demands.specs.Truth.{ReadsBack}
 use Rattle.demands.specs.NotEmpty.{Blanks, BlankOpens, BlankWrites, leastScan, Kept, BlankKeeps, oldFile, OldReads, currentFile, BothWays}
 use Rattle.demands.proofs.Survived.{confirms-each}
@@ -139,14 +139,16 @@ module _ (f : List ℕ) (n l m : ℕ) (e : blankOf f n l m ≡ Accepted) (room :
       let t : takes g (save 1 leastScan about) ≡ true = ap (λ (b : Begun). isAccepted (b .answer)) (taken-save g 1 leastScan about taken) in
       let o : openOf g ≡ Opens z = sound-open S in
       let s : slotOf g (save 1 leastScan about) ≡ 1 = ap (λ (b : Begun). b .job .slot) (taken-save g 1 leastScan about taken) in
+      let none : manyOf (runOf g z (slotOf g (save 1 leastScan about))) ≡ 0 = rw s (omega (arith, S .laid .above 1 (omega arith) slots)) in
+      let q : writesBy g z (save 1 leastScan about) ≡ 3 = omega (arith, one, none) in
+      let q′ : writesBy g z (save 1 leastScan about) + 0 ≡ 3 = omega (arith, q) in
       record {
         taken = t;
         saved =
-            subst (λ (k : ℕ). answerAfter g (save 1 leastScan about) (k + 2 + 0 + 0) ≡ Saved 0 (k + 2 + 0)) one
-            (confirms-each g z o (save 1 leastScan about) w t .confirms 0);
+            ap (answerAfter g (save 1 leastScan about)) (sym q′) ∙ confirms-each g z o (save 1 leastScan about) w t .confirms 0 ∙ ap (Saved 0) q;
         reads =
             subst (λ (x : ℕ). ReadsBack (stateAfter g (save 1 leastScan about) 3 .file) x leastScan about) s
-            (subst (λ (k : ℕ). ReadsBack (stateAfter g (save 1 leastScan about) (k + 2 + 0 + 0) .file) (slotOf g (save 1 leastScan about)) leastScan about) one
+            (subst (λ (k : ℕ). ReadsBack (stateAfter g (save 1 leastScan about) k .file) (slotOf g (save 1 leastScan about)) leastScan about) q′
             (run-reads g z o (save 1 leastScan about) tt w t 0));
       }
 

@@ -11,6 +11,7 @@ pub mod True
 pub mod Reading
 pub mod Fields
 pub mod Telling
+pub mod Zeroing
 pub mod Unchanged
 pub mod Filled
 pub mod Old

@@ -23,17 +23,19 @@ use Rattle.paper.specs.declared.answer.Ruled.the-variants.{Keeps, Breaks}
 use Rattle.paper.specs.declared.answer.Span.{Span}
 use Rattle.paper.specs.declared.answer.Span.the-variants as span
 use Rattle.paper.specs.declared.answer.Taken.the-variants as taken
+use Rattle.paper.specs.declared.answer.Asked.the-variants as asked
 use Rattle.paper.specs.declared.entry.Found.{Found}
 use Rattle.paper.specs.declared.job.Job.{Job}
 use Rattle.paper.specs.declared.job.Begun.{Begun}
 use Rattle.paper.specs.declared.job.Step.{Step}
 use Rattle.paper.specs.declared.job.Step.the-variants as step
-use Rattle.paper.specs.Refusals.{openedSays, listedSays, spanSays, takenSays, stepSays}
+use Rattle.paper.specs.Refusals.{openedSays, listedSays, spanSays, takenSays, askedSays, stepSays}
 use Rattle.paper.specs.Sizes.{sizesOf, versionOf, capacityOf, homeOf, startOf, roomOf}
 use Rattle.paper.specs.Index.{runOf, empty, shownOf, openChecks, openOf, Lies, Sound}
 use Rattle.paper.specs.Scan.{startsOf, classesOf, headlen, datalen, classIn, ruledOf, ofRuled, classOf, dataOf, Rule}
 use Rattle.paper.specs.Look.{listOf, listedOf, noSlot, heldChecks, slotChecks, otherScan, readChecks, foundOf, showOf, readOf, InIndex}
 use Rattle.paper.specs.Store.{blankSizes, blankTests, blankChecks, blankOf, recordsFor, freeAt, freePlace, emptySlot, refused, placeFor, keepSlot, reasonOf, scanChecks, saveOf, keepOf, clearOf, totalOf}
+use Rattle.paper.specs.Gaps.{gapsZero, gapsOf}
 use Rattle.paper.specs.Step.{agrees, hasLeft, wroteOf, stands, confirmed, confirmOf, stepAnswer, Agreeing, Standing}
 use Rattle.paper.specs.Convert.{otherMagic, wideRun, convertChecks, convertOf}
 use Rattle.paper.proofs.Converting.{magic-facts, facts-magic, narrow-facts, facts-narrow, going-facts, facts-going}
@@ -274,10 +276,11 @@ module _ (f scan : List ℕ) (j : Job) where
 -- ---- every call
 
 pub refused-exactly : RefusedExactly
-unfolding openOf listedOf foundOf showOf readOf classOf dataOf saveOf keepOf clearOf stepAnswer blankOf convertOf
+unfolding openOf gapsOf listedOf foundOf showOf readOf classOf dataOf saveOf keepOf clearOf stepAnswer blankOf convertOf
 refused-exactly =
     record {
       open-file = λ f. told openedSays opened.Refused (opened.Opens (sizesOf f)) (λ r. refl) refl (open-row f (λ S. nothing));
+      gaps = λ f. told askedSays asked.Refused (asked.Is (gapsZero f (sizesOf f))) (λ r. refl) refl (open-row f (λ S. nothing));
       list = λ f out.
           told listedSays listed.Refused (listed.Scans (length (listOf f))) (λ r. refl) refl
           (open-row f (λ S. one (λ t h. omega (arith, ltb-true (length out) (3 * length (listOf f)) t)) (λ t. omega (arith, ltb-false (length out) (3 * length (listOf f)) t)) (λ h. nothing)));

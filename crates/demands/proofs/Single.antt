@@ -8,11 +8,11 @@ use Rattle.paper.specs.declared.entry.Entry.{Entry}
 use Rattle.paper.specs.declared.job.Job.{Job}
 use Rattle.paper.specs.declared.job.Begun.{Begun}
 use Rattle.paper.specs.declared.job.Step.{Step}
-use Rattle.paper.specs.Refusals.{openedSays, listedSays, spanSays, takenSays, stepSays}
+use Rattle.paper.specs.Refusals.{openedSays, listedSays, spanSays, takenSays, askedSays, stepSays}
 use Rattle.paper.specs.Scan.{classOf, dataOf}
 use Rattle.paper.specs.Look.{showOf, readOf}
 use Rattle.paper.specs.Store.{saveOf, keepOf, clearOf}
-use Rattle.paper.proofs.Answers.{opened-only, listed-only, span-only, taken-only, step-only}
+use Rattle.paper.proofs.Answers.{opened-only, listed-only, span-only, taken-only, asked-only, step-only}
 use Rattle.demands.specs.OneOutcome.{Only, Outcome, Begins, OneOutcome}
 
 -- two that are said alike
@@ -35,6 +35,7 @@ pub one-outcome : OneOutcome
 one-outcome =
     record {
       open-file = λ f. alike openedSays opened-only _;
+      gaps = λ f. alike askedSays asked-only _;
       list = λ f out a b p q. lent-same a b (alike listedSays listed-only _ (a .answer) (b .answer) (p .0) (q .0)) (p .1 ∙ sym (q .1));
       entry = λ f s a b p q.
           let e : a .answer ≡ b .answer = alike takenSays taken-only _ (a .answer) (b .answer) (p .0) (q .0) in

@@ -6,6 +6,7 @@ use mathlib.Core.List.{List, []}
 use native.Mathlib.Omega.{arith}
 use native.Mathlib.Nat.{zero-mul}
 use borrow.Author.Tests.{eqb-true}
+use lib.ListN.{length}
 use Rattle.lent.specs.Write.{zeros}
 use Rattle.lent.proofs.Lists.{true≢false}
 use Rattle.lent.proofs.Writes.{pad-none}
@@ -18,25 +19,26 @@ use Rattle.paper.specs.declared.job.Begun.{Begun}
 use Rattle.paper.specs.declared.job.Step.the-variants.{Saved, Cleared}
 use Rattle.paper.specs.Sizes.{sizesOf}
 use Rattle.paper.specs.Index.{openOf}
-use Rattle.paper.specs.Store.{highest, saveOf, keepOf, clearOf, countOf, paddedOf, entryAfter, lowersOf, totalOf}
+use Rattle.paper.specs.Store.{highest, saveOf, keepOf, clearOf, countOf, paddedOf, entryAfter, lowersOf, changeOf, totalOf}
 use Rattle.paper.specs.Step.{stepJob}
 use Rattle.paper.proofs.Opening.{open-reads}
 use Rattle.paper.proofs.Ready.{fileAt, file-start}
 use Rattle.paper.proofs.Stages.{jobAt, job-start, stage-file, stage-job}
 use Rattle.paper.proofs.Begins.{Begins, save-taken, taken-save, keep-taken, taken-keep, clear-is-taken, taken-is-clear, save-begins, keep-begins, clear-begins}
-use Rattle.demands.specs.History.{Op, save, keep, clear, Whole, begin, scanOf, recordsOf, lowersBy, writesBy, isAccepted, takes, next, steps, given}
+use Rattle.demands.specs.History.{Op, save, keep, clear, Whole, begin, scanOf, recordsOf, lowersBy, changesBy, writesBy, isAccepted, takes, next, steps, given}
 use Rattle.demands.specs.Survival.{confirmed}
 
 -- the job j of an operation: ready, and with what the operation gives
 pub record Starts (z : Sizes) (f : List ℕ) (op : Op) (j : Job) : Type 0 where
   pub begins : Begins z f (scanOf op) j
   pub count : countOf z j ≡ recordsOf z op
-  pub total : totalOf z j ≡ writesBy f z op
+  pub change : changeOf z j ≡ changesBy f z op
   pub lowers : lowersOf j ≡ lowersBy f z op
   pub top : lowersBy f z op ≡ true → (j .slot ≡ highest f z) × (entryAfter z j ≡ zeros (z .m))
   pub bytes : paddedOf z j (scanOf op) ≡ given f z op .records
   pub entry : entryAfter z j ≡ given f z op .entry
   pub confirms : (c : ℕ) → cond (j .saves) (Saved 0 c) (Cleared 0 c) ≡ confirmed op c
+  pub long : length (j .about) ≡ 54
 
 pub accepts : (a : Taken) → isAccepted a ≡ true → a ≡ Accepted
 accepts Accepted e = refl
@@ -50,12 +52,13 @@ starts-own f (save slot scan about) w e =
     (record {
       begins = save-begins f slot scan about w t;
       count = refl;
-      total = refl;
+      change = refl;
       lowers = refl;
       top = λ e. absurd (true≢false e refl);
       bytes = refl;
       entry = refl;
       confirms = λ c. refl;
+      long = w;
     })
 starts-own f (keep scan about) w e =
     let z : Sizes = sizesOf f in
@@ -64,12 +67,13 @@ starts-own f (keep scan about) w e =
     (record {
       begins = keep-begins f scan about w t;
       count = refl;
-      total = refl;
+      change = refl;
       lowers = refl;
       top = λ e. absurd (true≢false e refl);
       bytes = refl;
       entry = refl;
       confirms = λ c. refl;
+      long = w;
     })
 starts-own f (clear slot) w e =
     let z : Sizes = sizesOf f in
@@ -78,16 +82,21 @@ starts-own f (clear slot) w e =
     (record {
       begins = clear-begins f slot t;
       count = refl;
-      total = refl;
+      change = refl;
       lowers = refl;
       top = λ e. (eqb-true slot (highest f z) e, refl);
       bytes = pad-none (0 * z .l) [] (omega (arith, zero-mul (z .l)));
       entry = refl;
       confirms = λ c. refl;
+      long = refl;
     })
 
 pub starts : (f : List ℕ) (z : Sizes) → openOf f ≡ Opens z → (op : Op) → Whole op → takes f op ≡ true → Starts z f op (begin f op .job)
 starts f z o op w e = subst (λ (y : Sizes). Starts y f op (begin f op .job)) (open-reads f o) (starts-own f op w e)
+
+-- as many writes in all as the operation has
+pub total-is : {z : Sizes} {f : List ℕ} {op : Op} → Starts z f op (begin f op .job) → totalOf z (begin f op .job) ≡ writesBy f z op
+total-is B = omega (arith, B .change, B .begins .ready .many-is)
 
 -- file and job after i steps
 pub steps-are : {z : Sizes} {f scan : List ℕ} {j : Job} → Begins z f scan j → (i : ℕ)

@@ -23,12 +23,12 @@ use Rattle.paper.specs.Store.{Write, totalOf, writesOf}
 use Rattle.paper.specs.Step.{isConfirmed, noWrite, stepAnswer}
 use Rattle.paper.proofs.Sizing.{less, times}
 use Rattle.paper.proofs.Opening.{facts-empty, facts-full, inside-all, slots-all, lies-end, sound-open, open-reads}
-use Rattle.paper.proofs.Writes.{total-lowers, writes-row, writes-boot, writes-entry, writes-lower}
+use Rattle.paper.proofs.Writes.{change-lowers, writes-row, writes-boot, writes-entry, writes-lower, writes-zero}
 use Rattle.paper.proofs.Ready.{fileAt}
 use Rattle.paper.proofs.Stages.{jobAt, sizesAt, stage-wrote, stage-confirms}
-use Rattle.demands.specs.History.{Op, Whole, begin, scanOf, recordsOf, writesBy, slotOf, takes, State, answerAfter, reached, heldAt, Holding, Held, holds}
+use Rattle.demands.specs.History.{Op, Whole, begin, scanOf, recordsOf, changesBy, writesBy, slotOf, takes, State, answerAfter, reached, heldAt, Holding, Held, holds}
 use Rattle.demands.specs.Survival.{some, PowerCut, confirmed, Confirmed, Answers, Confirms}
-use Rattle.demands.proofs.Start.{Starts, starts, steps-are}
+use Rattle.demands.proofs.Start.{Starts, starts, total-is, steps-are}
 use Rattle.demands.proofs.Histories.{history}
 
 -- ---- the list
@@ -97,14 +97,14 @@ module _ (f : List ℕ) (z : Sizes) (o : openOf f ≡ Opens z) (op : Op) (w : Wh
   y i = sizesAt (B .begins .ready) (B .begins .agreeing) i
 
   wrote : (i : ℕ) → i < writesBy f z op → answerAfter f op i ≡ Wrote (getD (writesOf (F i) (y i) j (scanOf op)) i noWrite .record-no) (i + 1)
-  wrote i h = answer-is i ∙ stage-wrote (B .begins .ready) (B .begins .agreeing) i (omega (arith, B .total))
+  wrote i h = answer-is i ∙ stage-wrote (B .begins .ready) (B .begins .agreeing) i (omega (arith, total-is B))
 
   at : (i : ℕ) (x : Write) → i < writesBy f z op → getD (writesOf (F i) (y i) j (scanOf op)) i noWrite ≡ x → answerAfter f op i ≡ Wrote (x .record-no) (i + 1)
   at i x h e = wrote i h ∙ ap (λ (y : Write). Wrote (y .record-no) (i + 1)) e
 
   confirms : (i : ℕ) → writesBy f z op ≤ i → answerAfter f op i ≡ confirmed op (writesBy f z op)
   confirms i h =
-      answer-is i ∙ stage-confirms (B .begins .ready) (B .begins .agreeing) i (omega (arith, B .total)) ∙ B .confirms (totalOf z j) ∙ ap (confirmed op) (B .total)
+      answer-is i ∙ stage-confirms (B .begins .ready) (B .begins .agreeing) i (omega (arith, total-is B)) ∙ B .confirms (totalOf z j) ∙ ap (confirmed op) (total-is B)
 
   answers : Answers f z op
   answers =
@@ -118,9 +118,13 @@ module _ (f : List ℕ) (z : Sizes) (o : openOf f ≡ Opens z) (op : Op) (w : Wh
             at (recordsOf z op + 1) _ (omega arith) (writes-entry (F (recordsOf z op + 1)) (y (recordsOf z op + 1)) j (scanOf op) (recordsOf z op + 1) (omega arith))
             ∙ ap (Wrote (recordOf z (slotOf f op))) e;
         lower = λ t.
-            at (recordsOf z op + 2) _ (omega (arith, B .total, total-lowers z j (B .lowers ∙ t)))
+            at (recordsOf z op + 2) _ (omega (arith, B .change, change-lowers z j (B .lowers ∙ t)))
             (writes-lower (F (recordsOf z op + 2)) (y (recordsOf z op + 2)) j (scanOf op) (recordsOf z op + 2) (omega arith) (B .lowers ∙ t))
             ∙ ap (Wrote 1) m;
+        zeros = λ i h.
+            let m : i < j .many = omega (arith, B .begins .ready .many-is) in
+            at (changesBy f z op + i) _ (omega arith) (writes-zero (F (changesBy f z op + i)) (y (changesBy f z op + i)) j (scanOf op) (changesBy f z op + i) i (omega (arith, B .change)) m)
+            ∙ ap (λ (r : ℕ). Wrote (r + i) (changesBy f z op + i + 1)) (B .begins .ready .old-is);
         confirms = λ more. confirms (writesBy f z op + more) (omega arith);
       }
 

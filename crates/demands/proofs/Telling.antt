@@ -7,10 +7,10 @@ use mathlib.Core.Logic.{⊎-elim}
 use native.Mathlib.Omega.{arith}
 use borrow.Author.Tests.{ltb-true}
 use lib.ListN.{length, take, drop, getD, length-take}
-use Rattle.lent.specs.Write.{write}
+use Rattle.lent.specs.Write.{write, zeros}
 use Rattle.lent.specs.Lists.{Rising}
 use Rattle.lent.proofs.Lists.{lt-or-ge, those-rising}
-use Rattle.lent.proofs.Writes.{length-write, write-before, write-after}
+use Rattle.lent.proofs.Writes.{length-zeros, length-write, write-before, write-after}
 use Rattle.paper.specs.declared.sizes.Sizes.{Sizes}
 use Rattle.paper.specs.declared.refusal.Refusal.the-variants.{Disagrees, Differs}
 use Rattle.paper.specs.declared.answer.Opened.{Opened}
@@ -19,7 +19,7 @@ use Rattle.paper.specs.declared.job.Job.{Job}
 use Rattle.paper.specs.declared.job.Step.the-variants as step
 use Rattle.paper.specs.Sizes.{sizesOf, bootBytes, startOf, homeOf}
 use Rattle.paper.specs.Index.{runOf, empty, slotsOf, openOf}
-use Rattle.paper.specs.Store.{recordsFor, countOf, paddedOf, sizesAfter, entryAfter, lowered, totalOf}
+use Rattle.paper.specs.Store.{recordsFor, countOf, paddedOf, sizesAfter, entryAfter, lowered, changeOf, totalOf}
 use Rattle.paper.specs.Step.{agrees, hasLeft, writeAt, stands, confirmOf, stepFile, stepAnswer}
 use Rattle.paper.proofs.Opening.{open-sound, open-reads, slots-holds, holds-slots, full-holds}
 use Rattle.paper.proofs.Sizing.{less, times, home-is, home-in}
@@ -27,7 +27,7 @@ use Rattle.paper.proofs.Encoding.{length-boot}
 use Rattle.paper.proofs.Free.{room-in}
 use Rattle.paper.proofs.Records.{entry-length}
 use Rattle.paper.proofs.Writes.{phases, row-saves}
-use Rattle.paper.proofs.Agreement.{agreed, file-refused, step-file, step-data, step-boot, step-entry, step-lower, step-past, job-head}
+use Rattle.paper.proofs.Agreement.{agreed, file-refused, step-file, step-data, step-boot, step-entry, step-lower, step-zero, step-past, job-head}
 use Rattle.demands.specs.Reads.{entryByte}
 use Rattle.demands.specs.Said.{ListExactly, Next, WroteNext, Outside, StepKeeps}
 
@@ -114,6 +114,17 @@ module _ (f scan : List ℕ) (j : Job) (k54 : length (j .about) ≡ 54) (b : ℕ
       times (j .first + w) (j .first - 1 + recordsFor z (j .size)) (z .l) (omega (arith, A .past s)) in
       written (startOf z (j .first + w)) bs (step-data f scan j z e refl h) (omega arith) (λ x. omega (arith, o .rows s (omega arith)))
 
+  keeps-zero : agrees f scan j ≡ true → (m : ℕ) → j .written ≡ changeOf z j + m → m < j .many → Keeps
+  keeps-zero e m h k =
+      let A = agreed f scan j e in
+      let past = A .old-past (omega arith) in
+      let n = length-zeros (z .l) in
+      let a : (j .old + m - 1) * z .l + z .l ≡ (j .old + m) * z .l = less (j .old + m) (z .l) (omega arith) in
+      let r : (j .old + m) * z .l ≤ length f = room-in z (length f) (j .old + m) (omega (arith, A .old-within (omega arith))) in
+      let p : (j .old - 1) * z .l ≤ (j .old + m - 1) * z .l = times (j .old - 1) (j .old + m - 1) (z .l) (omega arith) in
+      let q : (j .old + m) * z .l ≤ (j .old - 1 + j .many) * z .l = times (j .old + m) (j .old - 1 + j .many) (z .l) (omega arith) in
+      written (startOf z (j .old + m)) (zeros (z .l)) (step-zero f scan j z e refl m h k) (omega arith) (λ x. omega (arith, o .olds (omega arith)))
+
   keeps-boot : agrees f scan j ≡ true → (y : Sizes) → stepFile f scan j ≡ write f 0 (bootBytes y) → Keeps
   keeps-boot e y s =
       written 0 (bootBytes y) s (omega (arith, length-boot y, agreed f scan j e .booted .long)) (λ x. omega (arith, length-boot y, o .boot))
@@ -132,7 +143,7 @@ module _ (f scan : List ℕ) (j : Job) (k54 : length (j .about) ≡ 54) (b : ℕ
   keeps : (a : Bool) → agrees f scan j ≡ a → Keeps
   keeps false e = keeps-file (file-refused f scan j e)
   keeps true e =
-      ⊎-elim (λ (h : j .written < totalOf z j). phases Keeps z j (j .written) h (keeps-row e) (λ b. keeps-boot e (sizesAfter f z j) (step-boot f scan j z e refl b)) (keeps-entry e) (λ b t. keeps-boot e (lowered f z) (step-lower f scan j z e refl b t)))
+      ⊎-elim (λ (h : j .written < totalOf z j). phases Keeps z j (j .written) h (keeps-row e) (λ b. keeps-boot e (sizesAfter f z j) (step-boot f scan j z e refl b)) (keeps-entry e) (λ b t. keeps-boot e (lowered f z) (step-lower f scan j z e refl b t)) (keeps-zero e))
       (λ (h : totalOf z j ≤ j .written). keeps-file (step-past f scan j z e refl h)) (lt-or-ge (j .written) (totalOf z j))
 
 pub step-keeps : StepKeeps

@@ -59,7 +59,7 @@ listed-fires cs n r e = judge-refused listed.Refused cs (listed.Scans n) r liste
 -- ---- zeros
 
 zero-job : ZeroJob noJob
-zero-job = record { saves = refl; slot = refl; size = refl; span = refl; first = refl; written = refl; lowers = refl; boot = refl; about = refl }
+zero-job = record { saves = refl; slot = refl; size = refl; span = refl; first = refl; written = refl; lowers = refl; old = refl; many = refl; boot = refl; about = refl }
 
 zero-entry : ZeroEntry noEntry
 zero-entry =

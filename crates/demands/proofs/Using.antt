@@ -8,16 +8,17 @@ use borrow.Author.Tests.{eq-eqb, ne-eqb}
 use lib.Dec.{eqb}
 use Rattle.paper.specs.declared.sizes.Sizes.{Sizes}
 use Rattle.paper.specs.declared.answer.Opened.the-variants.{Opens}
+use Rattle.paper.specs.declared.job.Begun.{Begun}
 use Rattle.paper.specs.declared.job.Step.the-variants.{Cleared}
 use Rattle.paper.specs.Sizes.{renewed, capacityOf}
 use Rattle.paper.specs.Index.{runOf, Full, openOf}
-use Rattle.paper.specs.Store.{highest, clearOf}
+use Rattle.paper.specs.Store.{highest, manyOf, clearOf}
 use Rattle.paper.specs.Step.{isConfirmed}
 use Rattle.paper.proofs.Opening.{sound-open, full-holds, open-reads}
 use Rattle.paper.proofs.Used.{highest-le, highest-full, highest-above, full-highest, highest-is}
 use Rattle.paper.proofs.Ready.{fileAt, last-sound}
-use Rattle.paper.proofs.Begins.{ClearTaken, clear-is-taken}
-use Rattle.demands.specs.History.{Op, clear, Whole, begin, scanOf, takes, State, stateAfter, answerAfter, stepped, run, Done, after, heldAt}
+use Rattle.paper.proofs.Begins.{ClearTaken, clear-is-taken, taken-is-clear}
+use Rattle.demands.specs.History.{Op, clear, Whole, begin, scanOf, writesBy, slotOf, takes, State, stateAfter, answerAfter, stepped, run, Done, after, heldAt}
 use Rattle.demands.specs.Used.{NoneAbove, Topmost, HighestExactly, Exact, UsedExact, NeverLower, ClearSteps, Clears}
 use Rattle.demands.proofs.Start.{starts, accepts, steps-are}
 use Rattle.demands.proofs.Histories.{history}
@@ -43,7 +44,7 @@ unfolding run
 exact-one f z o op w t i c =
     let B = starts f z o op w t in
     let e : stateAfter f op i .file ≡ _ = ap (λ (s : State). s .file) (steps-are (B .begins) i) in
-    let S = last-sound (B .begins .ready) i (omega (arith, B .total, not-yet f z o op w t i c)) in
+    let S = last-sound (B .begins .ready) i (omega (arith, B .change, not-yet f z o op w t i c)) in
     subst Exact (sym (ap (λ (b : Bool). cond b (stateAfter f op i .file) f) t ∙ e))
     (let p = topmost (fileAt f (scanOf op) (begin f op .job) i) z in
     record { z = _; opens = sound-open S; topmost = record { slotted = p .slotted; full = p .full; above = p .above } })
@@ -74,17 +75,24 @@ module _ (f : List ℕ) (z : Sizes) (o : openOf f ≡ Opens z) (slot : ℕ) (t :
   is-highest : NoneAbove f z slot → eqb slot (highest f z) ≡ true
   is-highest n = eq-eqb slot (highest f z) (sym (highest-is f z slot slotted (λ h. full) n))
 
-  confirmed-at : (b : Bool) → eqb slot (highest f z) ≡ b → answerAfter f (clear slot) (0 + 2 + cond b 1 0 + 0) ≡ Cleared 0 (0 + 2 + cond b 1 0)
-  confirmed-at b e =
-      subst (λ (x : Bool). answerAfter f (clear slot) (0 + 2 + cond x 1 0 + 0) ≡ Cleared 0 (0 + 2 + cond x 1 0)) e
-      (confirms-each f z o (clear slot) tt t .confirms 0)
+  slot-is : slotOf f (clear slot) ≡ slot
+  slot-is = ap (λ (b : Begun). b .job .slot) (taken-is-clear f slot taken)
+
+  confirmed-at : (b : Bool) → eqb slot (highest f z) ≡ b → (i : ℕ) → i ≡ 2 + cond b 1 0 + manyOf (runOf f z slot) → answerAfter f (clear slot) i ≡ Cleared 0 i
+  confirmed-at b e i h =
+      let a = confirms-each f z o (clear slot) tt t .confirms 0 in
+      let q = ap (λ (s : ℕ). manyOf (runOf f z s)) slot-is in
+      let c = ap (λ (x : Bool). cond {A = ℕ} x 1 0) e in
+      let k : writesBy f z (clear slot) ≡ i = omega arith in
+      let l : writesBy f z (clear slot) + 0 ≡ i = omega arith in
+      ap (answerAfter f (clear slot)) (sym l) ∙ a ∙ ap (Cleared 0) k
 
   clear-steps : ClearSteps f z slot
   clear-steps =
       record {
         third = λ n. confirms-each f z o (clear slot) tt t .lower (is-highest n);
-        fourth = λ n. confirmed-at true (is-highest n);
-        other = λ s a b h. confirmed-at false (ne-eqb slot (highest f z) (λ e. omega (arith, full-highest f z s b h)));
+        fourth = λ n. confirmed-at true (is-highest n) _ (omega arith);
+        other = λ s a b h. confirmed-at false (ne-eqb slot (highest f z) (λ e. omega (arith, full-highest f z s b h))) _ (omega arith);
       }
 
 pub clears : Clears

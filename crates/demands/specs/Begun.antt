@@ -6,6 +6,7 @@ use mathlib.Core.List.{List}
 use lib.ListN.{length, take, replicate}
 use Rattle.lent.specs.Greatest.{greatest}
 use Rattle.paper.specs.declared.sizes.Sizes.{Sizes}
+use Rattle.paper.specs.declared.sizes.Run.{Run}
 use Rattle.paper.specs.declared.answer.Opened.the-variants.{Opens}
 use Rattle.paper.specs.declared.answer.Taken.the-variants.{Accepted}
 use Rattle.paper.specs.declared.job.Job.{Job}
@@ -14,7 +15,7 @@ use Rattle.paper.specs.Index.{runOf, empty, Full, openOf}
 use Rattle.paper.specs.Look.{InIndex}
 use Rattle.paper.specs.Store.{recordsFor, highest, saveOf, keepOf, clearOf}
 use Rattle.demands.specs.Causes.{FreeRun}
-use Rattle.demands.specs.History.{Op, save, keep, clear, Whole, begin, recordsOf, lowersBy, writesBy, slotOf, takes, stateAfter}
+use Rattle.demands.specs.History.{Op, save, keep, clear, Whole, begin, recordsOf, lowersBy, changesBy, slotOf, takes, stateAfter}
 use Rattle.demands.specs.Used.{NoneAbove}
 
 -- ---- the job
@@ -27,11 +28,17 @@ pub record Fresh (f : List ℕ) (slot size : ℕ) (j : Job) : Type 0 where
   pub none-written : j .written ≡ 0
   pub begun-on : j .boot ≡ take 32 f
 
+-- 02, 2026-05: "A job carries that old run", the records of the scan that the slot holds, or none (0, 0) where it holds none
+pub record Carries (run : Run) (j : Job) : Type 0 where
+  pub held : Full run → (j .old ≡ run .first) × (j .old + j .many ≡ run .last + 1)
+  pub nothing : run .first + run .last ≡ 0 → (j .old ≡ 0) × (j .many ≡ 0)
+
 -- "The scan goes to the lowest record r >= N+1 where r to r+k-1 lie within the room and belong to no listed scan, the slot's present scan included"
 pub record SaveJob (f : List ℕ) (slot : ℕ) (scan about : List ℕ) (j : Job) : Type 0 where
   pub fresh : Fresh f slot (length scan) j
   pub saves : j .saves ≡ true
   pub no-third : j .lowers ≡ false
+  pub carries : Carries (runOf f (sizesOf f) slot) j
   pub about-is : j .about ≡ about
   pub free : FreeRun f (sizesOf f) (recordsFor (sizesOf f) (length scan)) (j .first)
   pub lowest : (r : ℕ) → FreeRun f (sizesOf f) (recordsFor (sizesOf f) (length scan)) r → j .first ≤ r
@@ -50,6 +57,7 @@ pub record ClearJob (f : List ℕ) (slot : ℕ) (j : Job) : Type 0 where
   pub no-about : j .about ≡ replicate 54 0
   pub third : NoneAbove f (sizesOf f) slot → j .lowers ≡ true
   pub no-third : (s : ℕ) → slot < s → s ≤ capacityOf (sizesOf f) → Full (runOf f (sizesOf f) s) → j .lowers ≡ false
+  pub carries : Carries (runOf f (sizesOf f) slot) j
 
 pub record Begins : Type 0 where
   pub save-job : (f : List ℕ) (slot : ℕ) (scan about : List ℕ) → saveOf f slot scan about .answer ≡ Accepted
@@ -77,11 +85,11 @@ leftBelow f z slot = greatest (λ s. not (empty (runOf f z s))) (slot - 1)
 abbrev pub lowered : List ℕ → Sizes → Op → Sizes
 lowered f z op = renewed z (dataBy f z op) (leftBelow f z (slotOf f op)) ((z .counter + 1) % 4294967296)
 
--- what the bootstrap says before record 1 is written, then, and after the last write
+-- what the bootstrap says before record 1 is written, then, and once the change is made, whatever zeros are still to be written
 pub record Grows (f : List ℕ) (z : Sizes) (op : Op) : Type 0 where
   pub before : (i : ℕ) → i ≤ recordsOf z op → sizesOf (stateAfter f op i .file) ≡ z
   pub after : (i : ℕ) → recordsOf z op < i → i ≤ recordsOf z op + 2 → sizesOf (stateAfter f op i .file) ≡ grown f z op
-  pub ended : (i : ℕ) → writesBy f z op ≤ i → sizesOf (stateAfter f op i .file) ≡ cond (lowersBy f z op) (lowered f z op) (grown f z op)
+  pub ended : (i : ℕ) → changesBy f z op ≤ i → sizesOf (stateAfter f op i .file) ≡ cond (lowersBy f z op) (lowered f z op) (grown f z op)
 
 abbrev pub RecordOne : Type 0
 RecordOne = (f : List ℕ) (z : Sizes) → openOf f ≡ Opens z → (op : Op) → Whole op → takes f op ≡ true → Grows f z op

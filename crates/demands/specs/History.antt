@@ -8,15 +8,16 @@ use lib.ListN.{length}
 use Rattle.lent.specs.Lists.{also}
 use Rattle.lent.specs.Write.{pad, zeros}
 use Rattle.paper.specs.declared.sizes.Sizes.{Sizes}
+use Rattle.paper.specs.declared.sizes.Run.{Run}
 use Rattle.paper.specs.declared.answer.Taken.{Taken}
 use Rattle.paper.specs.declared.answer.Taken.the-variants.{Accepted, Refused}
 use Rattle.paper.specs.declared.job.Job.{Job}
 use Rattle.paper.specs.declared.job.Begun.{Begun}
 use Rattle.paper.specs.declared.job.Step.{Step}
 use Rattle.paper.specs.Sizes.{sizesOf}
-use Rattle.paper.specs.Index.{shownOf, entryAt}
+use Rattle.paper.specs.Index.{runOf, shownOf, entryAt}
 use Rattle.paper.specs.Entry.{entryBytes}
-use Rattle.paper.specs.Store.{recordsFor, runFrom, highest, placeFor, saveOf, keepOf, clearOf}
+use Rattle.paper.specs.Store.{recordsFor, runFrom, highest, manyOf, placeFor, saveOf, keepOf, clearOf}
 use Rattle.paper.specs.Step.{stepFile, stepJob, stepAnswer}
 
 -- ---- one operation
@@ -56,13 +57,21 @@ lowersBy f z (save slot scan about) = false
 lowersBy f z (keep scan about) = false
 lowersBy f z (clear slot) = eqb slot (highest f z)
 
--- how many records it writes in all, begun on f: its data records, record 1, the index record, and record 1 again
-abbrev pub writesBy : List ℕ → Sizes → Op → ℕ
-writesBy f z op = recordsOf z op + 2 + cond (lowersBy f z op) 1 0
+-- how many records make the change, begun on f: its data records, record 1, the index record, and record 1 again
+abbrev pub changesBy : List ℕ → Sizes → Op → ℕ
+changesBy f z op = recordsOf z op + 2 + cond (lowersBy f z op) 1 0
 
 -- the slot that it changes
 abbrev pub slotOf : List ℕ → Op → ℕ
 slotOf f op = begin f op .job .slot
+
+-- 02, 2026-05: the records of "the scan replaced or cleared"
+abbrev pub oldBy : List ℕ → Sizes → Op → Run
+oldBy f z op = runOf f z (slotOf f op)
+
+-- how many records it writes in all: "its writes grow by the run's length"
+abbrev pub writesBy : List ℕ → Sizes → Op → ℕ
+writesBy f z op = changesBy f z op + manyOf (oldBy f z op)
 
 abbrev pub isAccepted : Taken → Bool
 isAccepted Accepted = true

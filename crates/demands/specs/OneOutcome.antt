@@ -8,16 +8,18 @@ use Rattle.paper.specs.declared.answer.Opened.{Opened}
 use Rattle.paper.specs.declared.answer.Listed.{Listed}
 use Rattle.paper.specs.declared.answer.Span.{Span}
 use Rattle.paper.specs.declared.answer.Taken.{Taken}
+use Rattle.paper.specs.declared.answer.Asked.{Asked}
 use Rattle.paper.specs.declared.entry.Found.{Found}
 use Rattle.paper.specs.declared.job.Job.{Job}
 use Rattle.paper.specs.declared.job.Begun.{Begun}
 use Rattle.paper.specs.declared.job.Stepped.{Stepped}
-use Rattle.paper.specs.Refusals.{openedSays, listedSays, spanSays, takenSays, stepSays}
+use Rattle.paper.specs.Refusals.{openedSays, listedSays, spanSays, takenSays, askedSays, stepSays}
 use Rattle.paper.specs.Index.{openOf}
 use Rattle.paper.specs.Scan.{partOf, spanPlace, classOf, dataOf}
 use Rattle.paper.specs.Look.{listedOf, listedOut, foundOf, showOf, readOf}
 use Rattle.paper.specs.Store.{blankOf, blankFile, saveOf, keepOf, clearOf}
 use Rattle.paper.specs.Step.{stepFile, stepJob, stepAnswer}
+use Rattle.paper.specs.Gaps.{gapsOf}
 use Rattle.paper.specs.Convert.{convertOf, convertedOut}
 
 -- at most one is allowed
@@ -40,6 +42,7 @@ Begins is x = (takenSays (x .answer) ≡ takenSays (is .answer)) × (x .job ≡ 
 
 pub record OneOutcome : Type 0 where
   pub open-file : (f : List ℕ) → Only (λ (x : Opened). openedSays x ≡ openedSays (openOf f))
+  pub gaps : (f : List ℕ) → Only (λ (x : Asked). askedSays x ≡ askedSays (gapsOf f))
   pub list : (f out : List ℕ)
       → Only (λ (x : Outcome Listed). (listedSays (x .answer) ≡ listedSays (listedOf f out)) × (x .lent ≡ listedOut f out))
   pub entry : (f : List ℕ) (s : ℕ)

@@ -40,6 +40,7 @@ pub record Outside (z : Sizes) (j : Job) (b : ℕ) : Type 0 where
   pub boot : 32 ≤ b
   pub entry : entryByte z (j .slot) ≤ b → entryByte z (j .slot) + z .m ≤ b
   pub rows : j .saves ≡ true → (j .first - 1) * z .l ≤ b → (j .first - 1 + recordsFor z (j .size)) * z .l ≤ b
+  pub olds : (j .old - 1) * z .l ≤ b → (j .old - 1 + j .many) * z .l ≤ b
 
 -- For every file, scan and job, hand-made ones too.
 abbrev pub StepKeeps : Type 0

@@ -12,8 +12,9 @@ use Rattle.paper.specs.Sizes.{renewed, capacityOf, recordOf}
 use Rattle.paper.specs.Index.{openOf}
 use Rattle.paper.specs.Scan.{partOf}
 use Rattle.paper.specs.Look.{listOf, foundOf, showOf, readOf}
+use Rattle.paper.specs.Store.{manyOf}
 use Rattle.paper.specs.Step.{isConfirmed}
-use Rattle.demands.specs.History.{Op, save, keep, clear, Whole, begin, recordsOf, lowersBy, writesBy, slotOf, takes, answerAfter, stepped, reached, heldAt, Holding, Done, Wholes, after, holds, jobs, raised, Spares}
+use Rattle.demands.specs.History.{Op, save, keep, clear, Whole, begin, recordsOf, lowersBy, changesBy, oldBy, writesBy, slotOf, takes, answerAfter, stepped, reached, heldAt, Holding, Done, Wholes, after, holds, jobs, raised, Spares}
 
 -- some bytes
 abbrev pub some : List ℕ → Bool
@@ -61,13 +62,15 @@ Confirmed =
     (f : List ℕ) (z : Sizes) → openOf f ≡ Opens z → (op : Op) → Whole op → takes f op ≡ true → (i : ℕ) → isConfirmed (answerAfter f op i) ≡ true
     → reached f op (stepped i) ≡ true
 
--- "The answer to a step says which record it wrote and how many records it has written so far": k data records, record 1, the slot's index record, and of a
--- clear of the highest slot record 1 again; "So a save is confirmed at step k+3", a clear "at step 3", such a clear "at step 4", and each time when stepped again.
+-- "The answer to a step says which record it wrote and how many records it has written so far": k data records, record 1, the slot's index record, of a
+-- clear of the highest slot record 1 again, and then the old run's records, lowest first; "So a save is confirmed at step k+3", a clear "at step 3", such a clear
+-- "at step 4", later by the old run's length where there is one, and each time when stepped again.
 pub record Answers (f : List ℕ) (z : Sizes) (op : Op) : Type 0 where
   pub rows : (i : ℕ) → i < recordsOf z op → answerAfter f op i ≡ Wrote (begin f op .job .first + i) (i + 1)
   pub boot : answerAfter f op (recordsOf z op) ≡ Wrote 1 (recordsOf z op + 1)
   pub entry : answerAfter f op (recordsOf z op + 1) ≡ Wrote (recordOf z (slotOf f op)) (recordsOf z op + 2)
   pub lower : lowersBy f z op ≡ true → answerAfter f op (recordsOf z op + 2) ≡ Wrote 1 (recordsOf z op + 3)
+  pub zeros : (i : ℕ) → i < manyOf (oldBy f z op) → answerAfter f op (changesBy f z op + i) ≡ Wrote (oldBy f z op .first + i) (changesBy f z op + i + 1)
   pub confirms : (more : ℕ) → answerAfter f op (writesBy f z op + more) ≡ confirmed op (writesBy f z op)
 
 abbrev pub Confirms : Type 0

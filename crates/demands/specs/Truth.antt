@@ -13,13 +13,14 @@ use Rattle.paper.specs.declared.answer.Opened.the-variants as opened
 use Rattle.paper.specs.declared.answer.Ruled.the-variants.{Keeps}
 use Rattle.paper.specs.declared.job.Job.{Job}
 use Rattle.paper.specs.declared.job.Step.the-variants as step
-use Rattle.paper.specs.Refusals.{Says, refuses, openedSays, listedSays, spanSays, takenSays, stepSays}
+use Rattle.paper.specs.Refusals.{Says, refuses, openedSays, listedSays, spanSays, takenSays, askedSays, stepSays}
 use Rattle.paper.specs.Index.{shownOf, entryAt, openOf, Sound}
 use Rattle.paper.specs.Entry.{entryBytes}
 use Rattle.paper.specs.Scan.{ruledOf, partOf, classOf, dataOf}
 use Rattle.paper.specs.Look.{listOf, listedOf, foundOf, showOf, readOf}
 use Rattle.paper.specs.Store.{blankOf, recordsFor, runFrom, saveOf, keepOf, clearOf}
 use Rattle.paper.specs.Step.{stepAnswer}
+use Rattle.paper.specs.Gaps.{gapsOf}
 use Rattle.paper.specs.Convert.{convertOf}
 use Rattle.demands.specs.Causes.{Row, end, Given, Met, OpenRow, SlotRow, RuleRow, ReadRow, ListRow, ClearRow, SaveRow, KeepRow, StepRow, ConvertRow, BlankRow}
 use Rattle.demands.specs.History.{Op, save, keep, clear, Whole, scanOf, writesBy, slotOf, takes, stateAfter}
@@ -39,6 +40,7 @@ pub record Told (says : Says) (row : Row) : Type 0 where
 -- Each call is refused exactly under its conditions and in 01's order, and accepted exactly where none of them holds.
 pub record RefusedExactly : Type 0 where
   pub open-file : (f : List ℕ) → Told (openedSays (openOf f)) (OpenRow f end)
+  pub gaps : (f : List ℕ) → Told (askedSays (gapsOf f)) (OpenRow f end)
   pub list : (f out : List ℕ) → Told (listedSays (listedOf f out)) (ListRow f out)
   pub entry : (f : List ℕ) (s : ℕ) → Told (takenSays (foundOf f s .answer)) (SlotRow f s end)
   pub show : (f : List ℕ) (s : ℕ) → Told (spanSays (showOf f s)) (SlotRow f s end)

@@ -30,6 +30,8 @@ pub record ZeroJob (j : Job) : Type 0 where
   pub first : j .first ≡ 0
   pub written : j .written ≡ 0
   pub lowers : j .lowers ≡ false
+  pub old : j .old ≡ 0
+  pub many : j .many ≡ 0
   pub boot : j .boot ≡ replicate 32 0
   pub about : j .about ≡ replicate 54 0
 

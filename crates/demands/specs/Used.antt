@@ -8,7 +8,7 @@ use Rattle.paper.specs.declared.answer.Opened.the-variants.{Opens}
 use Rattle.paper.specs.declared.job.Step.the-variants.{Wrote, Cleared}
 use Rattle.paper.specs.Sizes.{capacityOf}
 use Rattle.paper.specs.Index.{runOf, Full, openOf}
-use Rattle.paper.specs.Store.{highest}
+use Rattle.paper.specs.Store.{highest, manyOf}
 use Rattle.paper.specs.Step.{isConfirmed}
 use Rattle.demands.specs.History.{Op, clear, Whole, takes, answerAfter, stepped, Done, Wholes, after}
 
@@ -52,11 +52,11 @@ NeverLower = (f : List ℕ) (z : Sizes) → openOf f ≡ Opens z → (os : List 
 
 -- ---- the steps of a clear
 
--- "Such a clear is confirmed at step 4", where the slot is the highest with a scan; any other "at step 3"
+-- "Such a clear is confirmed at step 4", where the slot is the highest with a scan, any other "at step 3"; 02, 2026-05: and later by the old run's length
 pub record ClearSteps (f : List ℕ) (z : Sizes) (slot : ℕ) : Type 0 where
   pub third : NoneAbove f z slot → answerAfter f (clear slot) 2 ≡ Wrote 1 3
-  pub fourth : NoneAbove f z slot → answerAfter f (clear slot) 3 ≡ Cleared 0 3
-  pub other : (s : ℕ) → slot < s → s ≤ capacityOf z → Full (runOf f z s) → answerAfter f (clear slot) 2 ≡ Cleared 0 2
+  pub fourth : NoneAbove f z slot → answerAfter f (clear slot) (3 + manyOf (runOf f z slot)) ≡ Cleared 0 (3 + manyOf (runOf f z slot))
+  pub other : (s : ℕ) → slot < s → s ≤ capacityOf z → Full (runOf f z s) → answerAfter f (clear slot) (2 + manyOf (runOf f z slot)) ≡ Cleared 0 (2 + manyOf (runOf f z slot))
 
 abbrev pub Clears : Type 0
 Clears = (f : List ℕ) (z : Sizes) → openOf f ≡ Opens z → (slot : ℕ) → takes f (clear slot) ≡ true → ClearSteps f z slot

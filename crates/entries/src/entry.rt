@@ -1,6 +1,7 @@
 //! What an entry's run is: empty, in range, or in another's way.
 ghost use mathlib.Core.Path.{_≡_};
 ghost use Rattle.paper.specs.Index.{empty, inData, shares};
+ghost use Rattle.paper.specs.Store.{manyOf};
 use paper::sizes::Run;
 use paper::sizes::Sizes;
 
@@ -14,6 +15,19 @@ pub fn empty(a: Run) -> bool
         return false;
     }
     true
+}
+
+// How many records the run has.
+pub fn many(a: Run) -> usize
+    ensures { λ r. ⌜ r ≡ manyOf a ⌝ }
+{
+    if a.last < a.first {
+        return 0;
+    }
+    if a.first == 0 {
+        return a.last;
+    }
+    a.last - (a.first - 1)
 }
 
 // The run lies in the data records.

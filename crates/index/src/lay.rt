@@ -85,7 +85,7 @@ fn ends_in(a: Run, z: Sizes) -> bool
 }
 
 // Goes on from slot `j` through the row, which holds every slot in use.
-fn lay_rest(row: &[u32], z: Sizes, j: usize, marks: &mut [u64]) -> usize
+pub fn lay_rest(row: &[u32], z: Sizes, j: usize, marks: &mut [u64]) -> usize
     requires { ⌜ Ranged z ⌝ }
     requires { ⌜ (2 * z .u ≤ length (now row)) × (j ≤ z .u) × Fits z (rowRun (now row)) j ⌝ }
     requires { ⌜ Reach z (now marks) × Shows (now marks) (z .n) (rowRun (now row)) j ⌝ }

@@ -7,7 +7,7 @@ use paper::answer::Opened;
 use paper::sizes::Sizes;
 
 pub mod change;
-mod lay;
+pub mod lay;
 mod rise;
 pub mod rowed;
 mod skip;

@@ -3,9 +3,20 @@ ghost use mathlib.Core.Path.{_≡_};
 ghost use mathlib.Core.Bool.{true};
 ghost use Prim.Native.Nat.{_+_, _*_, _/_, _≤_, _<_};
 ghost use lib.ListN.{length};
-ghost use Rattle.marks.specs.Marks.{Took, ones};
+ghost use Rattle.marks.specs.Marks.{Took, Clear, ones};
 
 pub mod past;
+
+// No record is marked any more.
+pub fn clear(marks: &mut [u64])
+    ensures { λ _. ⌜ Clear (now (marks .exit)) ⌝ }
+{
+    let mut i = 0;
+    while i < marks.len() {
+        marks[i] = 0;
+        i += 1;
+    }
+}
 
 // The word whose bits `x` to `y` are set, made of its two powers of two.
 fn ones(x: usize, y: usize) -> u64

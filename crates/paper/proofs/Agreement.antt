@@ -9,7 +9,7 @@ use lib.ListN.{length, take, drop}
 use lib.Seq.{take-take}
 use Rattle.lent.specs.Checks.{Fired, clear, fires, fired}
 use Rattle.lent.specs.Lists.{all}
-use Rattle.lent.specs.Write.{write, pad}
+use Rattle.lent.specs.Write.{write, zeros, pad}
 use Rattle.lent.proofs.Lists.{all-true, true-all, true≢false, not-so, asked, answered}
 use Rattle.lent.proofs.Sames.{same-true, true-same}
 use Rattle.lent.proofs.Writes.{write-nothing, take-write}
@@ -19,15 +19,15 @@ use Rattle.paper.specs.declared.refusal.Refusal.the-variants.{Disagrees}
 use Rattle.paper.specs.declared.job.Job.{Job}
 use Rattle.paper.specs.declared.job.Step.{Step}
 use Rattle.paper.specs.declared.job.Step.the-variants.{Wrote, Refused}
-use Rattle.paper.specs.Sizes.{sizesOf, bootBytes, recordOf, startOf, homeOf, versionOf, changeBoot}
+use Rattle.paper.specs.Sizes.{sizesOf, bootBytes, recordOf, startOf, homeOf, roomOf, versionOf, changeBoot}
 use Rattle.paper.specs.Index.{openOf, Booted}
-use Rattle.paper.specs.Store.{Write, perform, countOf, paddedOf, sizesAfter, entryAfter, sizesWrite, entryWrite, lowersOf, lowered, totalOf}
+use Rattle.paper.specs.Store.{Write, perform, countOf, paddedOf, sizesAfter, entryAfter, sizesWrite, entryWrite, lowersOf, lowered, changeOf, totalOf}
 use Rattle.paper.specs.Step.{isClear, agreeTests, agrees, writeAt, hasLeft, stepFile, placed, moved, stepJob, standTests, stands, confirmOf, stepAnswer, steppedOf, Agreeing, Standing}
 use Rattle.paper.proofs.Opening.{change-booted, booted-change}
 use Rattle.paper.proofs.Sizing.{times, home-in}
 use Rattle.paper.proofs.Encoding.{boot-there}
 use Rattle.paper.proofs.Free.{room-in}
-use Rattle.paper.proofs.Writes.{total-lowers, phases, writes-row, writes-boot, writes-entry, writes-lower, writes-past, row-saves, row-is}
+use Rattle.paper.proofs.Writes.{change-lowers, phases, writes-row, writes-boot, writes-entry, writes-lower, writes-zero, writes-past, row-saves, row-is}
 
 -- refusals 1 to 5, as a fact and as a test
 clear-booted : (f : List ℕ) → isClear (fired (changeBoot f)) ≡ true → Booted f (sizesOf f) × (versionOf f ≡ 1)
@@ -62,6 +62,8 @@ module _ (f scan : List ℕ) (j : Job) where
         past = λ q. ltb-true _ _ (asked _ _ (v .0) q);
         within = λ q. leb-true _ _ (asked _ _ (v .1 .0) q);
         left = leb-true _ _ (v .1 .1 .0);
+        old-past = λ q. ltb-true _ _ (asked _ _ (v .1 .1 .1 .0) (lt-ltb _ _ q));
+        old-within = λ q. leb-true _ _ (asked _ _ (v .1 .1 .1 .1 .0) (lt-ltb _ _ q));
       }
 
   pub agreeing : (z : Sizes) → Agreeing f scan j z → agrees f scan j ≡ true
@@ -85,7 +87,16 @@ module _ (f scan : List ℕ) (j : Job) where
                     le-leb _ _ (a .high),
                     (
                       answered _ _ (λ q. lt-ltb _ _ (a .past q)),
-                      (answered _ _ (λ q. le-leb _ _ (a .within q)), (le-leb _ _ (a .left), tt)),
+                      (
+                        answered _ _ (λ q. le-leb _ _ (a .within q)),
+                        (
+                          le-leb _ _ (a .left),
+                          (
+                            answered _ _ (λ q. lt-ltb _ _ (a .old-past (ltb-true _ _ q))),
+                            (answered _ _ (λ q. le-leb _ _ (a .old-within (ltb-true _ _ q))), tt),
+                          ),
+                        ),
+                      ),
                     ),
                   ),
                 ),
@@ -146,6 +157,9 @@ module _ (f scan : List ℕ) (j : Job) (z : Sizes) (agree : agrees f scan j ≡ 
   pub step-lower : j .written ≡ countOf z j + 2 → lowersOf j ≡ true → stepFile f scan j ≡ write f 0 (bootBytes (lowered f z))
   step-lower h t = step-file ∙ ap (perform f) (writes-lower f z j scan (j .written) h t)
 
+  pub step-zero : (m : ℕ) → j .written ≡ changeOf z j + m → m < j .many → stepFile f scan j ≡ write f (startOf z (j .old + m)) (zeros (z .l))
+  step-zero m e h = step-file ∙ ap (perform f) (writes-zero f z j scan (j .written) m e h)
+
   pub step-past : totalOf z j ≤ j .written → stepFile f scan j ≡ f
   step-past h = step-file ∙ ap (perform f) (writes-past f z j scan (j .written) h) ∙ write-nothing f 0
 
@@ -179,16 +193,18 @@ module _ (f scan : List ℕ) (j : Job) (z : Sizes) (agree : agrees f scan j ≡ 
       ap (λ (t : Bool). placed j (j .written + 1) (cond t (w .bytes) (j .boot))) (ne-eqb (w .record-no) 1 n)
       ∙ ap (placed j (j .written + 1)) (sym (head-kept f (w .at) (w .bytes) a l ∙ agree-at .begun))
 
+  -- a data record lies past record 1
+  head-record : (r : ℕ) (bs : List ℕ) → z .n < r → r ≤ roomOf z (length f) + 1 → Heads (record { at = startOf z r; bytes = bs; record-no = r })
+  head-record r bs p w =
+      let q = agree-at .booted .ranged .shape in
+      head-other (record { at = startOf z r; bytes = bs; record-no = r }) (λ e. omega arith) (omega (arith, times 1 (r - 1) (z .l) (omega arith)))
+      (omega (arith, room-in z (length f) (r - 1) (omega arith)))
+
   head-row : j .written < countOf z j → Heads (writeAt f z scan j)
   head-row h =
-      let r : ℕ = j .first + j .written in
       let s : j .saves ≡ true = row-saves z j (omega arith) in
-      let q = agree-at .booted .ranged .shape in
-      let p = agree-at .past s in
       subst Heads (sym (writes-row f z j scan (j .written) h))
-      (head-other (record { at = startOf z r; bytes = take (z .l) (drop (j .written * z .l) (paddedOf z j scan)); record-no = r }) (λ e. omega arith)
-      (omega (arith, times 1 (r - 1) (z .l) (omega arith)))
-      (omega (arith, room-in z (length f) (r - 1) (omega (arith, agree-at .within s)))))
+      (head-record (j .first + j .written) (take (z .l) (drop (j .written * z .l) (paddedOf z j scan))) (omega (arith, agree-at .past s)) (omega (arith, agree-at .within s)))
 
   head-entry : j .written ≡ countOf z j + 1 → Heads (writeAt f z scan j)
   head-entry h =
@@ -196,12 +212,17 @@ module _ (f scan : List ℕ) (j : Job) (z : Sizes) (agree : agrees f scan j ≡ 
       subst Heads (sym (writes-entry f z j scan (j .written) h))
       (head-other (entryWrite z j) (λ e. omega arith) (omega arith) (omega (arith, home-in (agree-at .booted) (j .slot) (agree-at .low) (agree-at .high))))
 
+  head-zero : (m : ℕ) → j .written ≡ changeOf z j + m → m < j .many → Heads (writeAt f z scan j)
+  head-zero m e h =
+      subst Heads (sym (writes-zero f z j scan (j .written) m e h))
+      (head-record (j .old + m) (zeros (z .l)) (omega (arith, agree-at .old-past (omega arith))) (omega (arith, agree-at .old-within (omega arith))))
+
   pub job-head : j .written < totalOf z j → stepJob f scan j ≡ placed j (j .written + 1) (take 32 (stepFile f scan j))
   job-head h =
       step-job ∙ rw (left-is h)
       (phases (Heads (writeAt f z scan j)) z j (j .written) h head-row
       (λ e. subst Heads (sym (writes-boot f z j scan (j .written) e)) (head-boot (sizesAfter f z j))) head-entry
-      (λ e t. subst Heads (sym (writes-lower f z j scan (j .written) e t)) (head-boot (lowered f z)))
+      (λ e t. subst Heads (sym (writes-lower f z j scan (j .written) e t)) (head-boot (lowered f z))) head-zero
       ∙ ap (λ (g : List ℕ). placed j (j .written + 1) (take 32 g)) (sym step-file))
 
   -- ---- the answer
@@ -217,7 +238,7 @@ module _ (f scan : List ℕ) (j : Job) (z : Sizes) (agree : agrees f scan j ≡ 
 
   -- a third write is one of the writes
   left-lower : j .written ≡ countOf z j + 2 → lowersOf j ≡ true → j .written < totalOf z j
-  left-lower h t = omega (arith, total-lowers z j t)
+  left-lower h t = omega (arith, change-lowers z j t)
 
   pub answer-row : j .written < countOf z j → stepAnswer f scan j ≡ Wrote (j .first + j .written) (j .written + 1)
   answer-row h = answer-wrote (omega arith) ∙ ap (λ (w : Write). Wrote (w .record-no) (j .written + 1)) (writes-row f z j scan (j .written) h)
@@ -231,6 +252,9 @@ module _ (f scan : List ℕ) (j : Job) (z : Sizes) (agree : agrees f scan j ≡ 
   pub answer-lower : j .written ≡ countOf z j + 2 → lowersOf j ≡ true → stepAnswer f scan j ≡ Wrote 1 (j .written + 1)
   answer-lower h t = answer-wrote (left-lower h t) ∙ ap (λ (w : Write). Wrote (w .record-no) (j .written + 1)) (writes-lower f z j scan (j .written) h t)
 
+  pub answer-zero : (m : ℕ) → j .written ≡ changeOf z j + m → m < j .many → stepAnswer f scan j ≡ Wrote (j .old + m) (j .written + 1)
+  answer-zero m e h = answer-wrote (omega arith) ∙ ap (λ (w : Write). Wrote (w .record-no) (j .written + 1)) (writes-zero f z j scan (j .written) m e h)
+
   pub answer-past : totalOf z j ≤ j .written → stepAnswer f scan j ≡ confirmOf f scan j (openOf f)
   answer-past h = step-answer ∙ rw (none-left h)
 
@@ -241,11 +265,11 @@ module _ (f scan : List ℕ) (j : Job) (z : Sizes) where
   unfolding stands
   stood e =
       let t = all-true (standTests f scan j z) e in
-      record { entry = same-true _ _ (t .0); rows = same-true _ _ (t .1 .0) }
+      record { entry = same-true _ _ (t .0); rows = same-true _ _ (t .1 .0); gone = same-true _ _ (t .1 .1 .0) }
 
   pub standing : Standing f scan j z → stands f scan j z ≡ true
   unfolding stands
-  standing h = true-all (standTests f scan j z) (true-same (h .entry), (true-same (h .rows), tt))
+  standing h = true-all (standTests f scan j z) (true-same (h .entry), (true-same (h .rows), (true-same (h .gone), tt)))
 
 -- a step's answer and job
 pub stepped : (f scan : List ℕ) (j k : Job) (a : Step) → stepAnswer f scan j ≡ a → stepJob f scan j ≡ k → steppedOf f scan j ≡ record { answer = a; job = k }

@@ -1,7 +1,7 @@
 -- Number and values determine the answer: of every answer's definition in the paper's numbers there is a way back.
 use Prim.Native.Nat.{ℕ}
 use mathlib.Core.Path.{_≡_, refl, sym, _∙_, ap}
-use mathlib.Core.Bool.{cond}
+use mathlib.Core.Bool.{true, false, cond}
 use mathlib.Core.List.{List, [], _∷_}
 use native.Mathlib.Omega.{arith}
 use lib.Dec.{eqb}
@@ -17,9 +17,11 @@ use Rattle.paper.specs.declared.answer.Span.{Span}
 use Rattle.paper.specs.declared.answer.Span.the-variants as span
 use Rattle.paper.specs.declared.answer.Taken.{Taken}
 use Rattle.paper.specs.declared.answer.Taken.the-variants as taken
+use Rattle.paper.specs.declared.answer.Asked.{Asked}
+use Rattle.paper.specs.declared.answer.Asked.the-variants as asked
 use Rattle.paper.specs.declared.job.Step.{Step}
 use Rattle.paper.specs.declared.job.Step.the-variants as step
-use Rattle.paper.specs.Refusals.{numberOf, valueOf, Says, refuses, openedSays, listedSays, spanSays, takenSays, stepSays}
+use Rattle.paper.specs.Refusals.{numberOf, valueOf, Says, refuses, openedSays, listedSays, spanSays, takenSays, askedSays, stepSays}
 
 -- what can be undone tells its arguments apart
 only : {A B : Type 0} (says : A → B) (back : B → A) → ((a : A) → back (says a) ≡ a) → (a b : A) → says a ≡ says b → a ≡ b
@@ -134,6 +136,17 @@ undo-taken (taken.Refused r) = undo-refused accepted taken.Refused r
 
 pub taken-only : (a b : Taken) → takenSays a ≡ takenSays b → a ≡ b
 taken-only = only takenSays (answerAt accepted taken.Refused) undo-taken
+
+abbrev is : List ℕ → Asked
+is vs = asked.Is (eqb (getD vs 0 0) 1)
+
+undo-asked : (a : Asked) → answerAt is asked.Refused (askedSays a) ≡ a
+undo-asked (asked.Is true) = refl
+undo-asked (asked.Is false) = refl
+undo-asked (asked.Refused r) = undo-refused is asked.Refused r
+
+pub asked-only : (a b : Asked) → askedSays a ≡ askedSays b → a ≡ b
+asked-only = only askedSays (answerAt is asked.Refused) undo-asked
 
 -- by what was done, then record and count
 abbrev done : List ℕ → Step

@@ -1,5 +1,5 @@
 -- An accepted save, keep or clear: what it was accepted on, and that the job which it hands back is ready to be stepped.
-use Prim.Native.Nat.{ℕ, _+_, _-_, _*_, _≤_}
+use Prim.Native.Nat.{ℕ, _+_, _-_, _*_, _≤_, _<_}
 use mathlib.Core.Path.{_≡_, refl, sym, _∙_, ap, subst}
 use mathlib.Core.Bool.{true, false, not}
 use mathlib.Core.List.{List, [], _∷_, _++_}
@@ -31,14 +31,14 @@ use Rattle.paper.specs.Sizes.{sizesOf, capacityOf, startOf, roomOf}
 use Rattle.paper.specs.Index.{runOf, empty, Full, changeChecks, openOf, Lies, Sound, Changeable}
 use Rattle.paper.specs.Scan.{headlen, datalen, ruledOf}
 use Rattle.paper.specs.Look.{slotTests, noSlot, heldChecks, slotChecks, InIndex}
-use Rattle.paper.specs.Store.{recordsFor, runFrom, emptySlot, highest, refused, accepted, placeFor, savesAt, saveJob, clearJob, reasonOf, scanChecks, saveOf, keepSlot, keepOf, clearOf, dataFrom, dataWrites, sizesAfter, entryAfter}
+use Rattle.paper.specs.Store.{recordsFor, runFrom, emptySlot, highest, manyOf, oldRun, refused, accepted, placeFor, savesAt, saveJob, clearJob, reasonOf, scanChecks, saveOf, keepSlot, keepOf, clearOf, dataFrom, dataWrites, sizesAfter, entryAfter}
 use Rattle.paper.proofs.Opening.{full-facts, facts-full, then-clear, may-change, change-may, empty-lies}
 use Rattle.paper.proofs.Rules.{keeps-lengths}
 use Rattle.paper.proofs.Reasons.{no-reason}
 use Rattle.paper.proofs.Writes.{enough, some-record}
 use Rattle.paper.specs.Step.{Agreeing}
 use Rattle.paper.proofs.Encoding.{statedBy, length-entry, entry-states, zeros-state}
-use Rattle.paper.proofs.Free.{performs, FreeAt, place-free, free-nobody, room-in, used-room, data-free, data-all}
+use Rattle.paper.proofs.Free.{performs, FreeAt, place-free, free-nobody, place-near, room-in, rows-in, used-room, scan-lies, data-free, data-all}
 use Rattle.paper.proofs.Used.{highest-le, full-highest}
 use Rattle.paper.proofs.Bootstrap.{covers-more}
 use Rattle.paper.proofs.IndexLaw.{Alone}
@@ -50,15 +50,39 @@ pub record Begins (z : Sizes) (f scan : List ℕ) (j : Job) : Type 0 where
   pub agreeing : Agreeing f scan j z
   pub fresh : j .written ≡ 0
 
+-- ---- the old run
+
+-- it is that of the slot's scan, and lies within the room
+record Carried (f : List ℕ) (z : Sizes) (slot : ℕ) : Type 0 where
+  is : oldRun f slot .first ≡ runOf f z slot .first
+  many-is : manyOf (oldRun f slot) ≡ manyOf (runOf f z slot)
+  past : 0 < manyOf (oldRun f slot) → z .n < oldRun f slot .first
+  within : 0 < manyOf (oldRun f slot) → oldRun f slot .first + manyOf (oldRun f slot) ≤ roomOf z (length f) + 1
+
+carried : {f : List ℕ} {z : Sizes} → Sound f z → (slot : ℕ) → 1 ≤ slot → slot ≤ capacityOf z → Carried f z slot
+carried {f} {z} S slot a b =
+    let e : oldRun f slot ≡ runOf f z slot = ap (λ (y : Sizes). runOf f y slot) (S .booted .reads) in
+    let p = ap (λ (r : Run). r .first) e in
+    let m = ap manyOf e in
+    record {
+      is = p;
+      many-is = m;
+      past = λ h. omega (arith, scan-lies (S .laid) slot a b (omega arith) .past);
+      within = λ h. omega (arith, scan-lies (S .laid) slot a b (omega arith) .within, used-room (S .booted));
+    }
+
 -- ---- a save
 
 module _ {f : List ℕ} {z : Sizes} (S : Sound f z) (v : z .version ≡ 1) (slot : ℕ) (scan about : List ℕ) (k54 : length about ≡ 54) (s₁ : 1 ≤ slot) (s₂ : slot ≤ capacityOf z)
-    (long : 256 ≤ length scan) (r : ℕ) (F : FreeAt z (length f) (runOf f z) (recordsFor z (length scan)) r) where
+    (long : 256 ≤ length scan) (r : ℕ) (F : FreeAt z (length f) (runOf f z) (recordsFor z (length scan)) r) (close : r ≤ z .n + z .d + 1) where
   abbrev K : ℕ
   K = recordsFor z (length scan)
 
   abbrev j : Job
   j = savesAt f slot scan about r
+
+  O : Carried f z slot
+  O = carried S slot s₁ s₂
 
   l₁ : 1 ≤ z .l
   l₁ = omega (arith, S .booted .ranged .shape .l-low)
@@ -82,7 +106,7 @@ module _ {f : List ℕ} {z : Sizes} (S : Sound f z) (v : z .version ≡ 1) (slot
   last-byte = ap (λ (x : ℕ). x * z .l) (omega (arith, F .past)) ∙ add-mul (r - 1) K (z .l)
 
   fits : startOf z r + K * z .l ≤ length f
-  fits = omega (arith, last-byte, room-in z (length f) (r + K - 1) last-in)
+  fits = rows-in z (length f) r K (omega (arith, F .past)) (F .within)
 
   gives : part (startOf z r) (startOf z r + K * z .l) (performs f (dataWrites z j scan)) ≡ pad (K * z .l) scan
   gives =
@@ -115,6 +139,14 @@ module _ {f : List ℕ} {z : Sizes} (S : Sound f z) (v : z .version ≡ 1) (slot
           to = ap (λ (x : Run). x .last * z .l) states ∙ last-byte;
           settles = λ t e. let q : r + (r + K - 1) ≡ 0 = subst (λ (x : Run). x .first + x .last ≡ 0) states e in absurd (omega (arith, F .past));
           gives = gives;
+          old-is = O .is;
+          many-is = O .many-is;
+          old-apart =
+              subst (λ (x : Run). (q : ℕ) → z .n < q → runOf f z slot .first ≤ q → q ≤ runOf f z slot .last → x .first ≤ q → q ≤ x .last → ⊥) (sym states)
+              (λ q n a b x y. free-nobody F (S .laid) slot q s₁ s₂ x (omega (arith, K₁)) a b);
+          near =
+              subst (λ (x : Run). (q : ℕ) → z .n + z .d < q → q ≤ z .n + sizesAfter f z j .d → (x .first ≤ q) × (q ≤ x .last)) (sym states)
+              (λ q a b. (omega arith, omega (arith, F .past, K₁)));
         };
         agreeing = record {
           booted = S .booted;
@@ -128,6 +160,8 @@ module _ {f : List ℕ} {z : Sizes} (S : Sound f z) (v : z .version ≡ 1) (slot
           past = λ h. F .past;
           within = λ h. F .within;
           left = omega arith;
+          old-past = O .past;
+          old-within = O .within;
         };
         fresh = refl;
       }
@@ -138,6 +172,9 @@ module _ {f : List ℕ} {z : Sizes} (S : Sound f z) (v : z .version ≡ 1) (slot
     (there : Full (runOf f z slot)) where
   abbrev q : Job
   q = clearJob f slot
+
+  Q : Carried f z slot
+  Q = carried S slot s₁ s₂
 
   blank : statedBy (zeros (z .m)) ≡ record { first = 0; last = 0 }
   blank = zeros-state (z .m)
@@ -165,6 +202,12 @@ module _ {f : List ℕ} {z : Sizes} (S : Sound f z) (v : z .version ≡ 1) (slot
           gives =
               part-none (startOf z 0) (startOf z 0 + 0 * z .l) f (omega (arith, zero-mul (z .l)))
               ∙ sym (pad-none (0 * z .l) [] (omega (arith, zero-mul (z .l))));
+          old-is = Q .is;
+          many-is = Q .many-is;
+          old-apart =
+              subst (λ (x : Run). (r : ℕ) → z .n < r → runOf f z slot .first ≤ r → r ≤ runOf f z slot .last → x .first ≤ r → r ≤ x .last → ⊥) (sym blank)
+              (λ r n a b x y. omega arith);
+          near = λ r a b. absurd (omega arith);
         };
         agreeing = record {
           booted = S .booted;
@@ -178,6 +221,8 @@ module _ {f : List ℕ} {z : Sizes} (S : Sound f z) (v : z .version ≡ 1) (slot
           past = λ h. absurd (true≢false h refl);
           within = λ h. absurd (true≢false h refl);
           left = omega arith;
+          old-past = Q .past;
+          old-within = Q .within;
         };
         fresh = refl;
       }
@@ -320,6 +365,7 @@ module _ (f : List ℕ) where
   save-begins-at slot scan about k54 o i p =
       save-ready (o .sound) (o .current) slot scan about k54 (i .low) (i .high) (keeps-lengths (p .keeps) .long) (placeFor f (length scan))
       (place-free (sizesOf f) (length f) (runOf f (sizesOf f)) (recordsFor (sizesOf f) (length scan)) (p .found))
+      (place-near (sizesOf f) (length f) (runOf f (sizesOf f)) (recordsFor (sizesOf f) (length scan)) (o .sound .laid) (p .found))
 
   pub save-begins : (slot : ℕ) (scan about : List ℕ) → length about ≡ 54 → SaveTaken f slot scan → Begins (sizesOf f) f scan (saveJob f slot scan about)
   save-begins slot scan about k54 h = save-begins-at slot scan about k54 (h .may) (h .slotted) (h .placed)

@@ -5,22 +5,22 @@ use mathlib.Core.Bool.{true}
 use mathlib.Core.List.{List, [], _∷_, _++_}
 use mathlib.Core.Logic.{_≢_, ⊎-elim}
 use native.Mathlib.Omega.{arith}
-use native.Mathlib.Nat.{lt-of-mul-lt-mul-right, le-div-iff-mul-le, div-mul-le-self, suc-mul, zero-mul}
+use native.Mathlib.Nat.{add-mul, lt-of-mul-lt-mul-right, le-div-iff-mul-le, div-mul-le-self, suc-mul, zero-mul}
 use borrow.Author.Tests.{ltb-true, leb-true, eqb-true, lt-ltb, le-leb, eq-eqb}
 use lib.ListN.{length, take, drop, getD, length-drop, take-append-drop}
 use lib.Seq.{take-suc, length-take-le}
 use Rattle.lent.specs.Least.{Lowest}
 use Rattle.lent.specs.Write.{write}
-use Rattle.lent.proofs.Lists.{lt-or-ge, all-true, true-all}
+use Rattle.lent.proofs.Lists.{lt-or-ge, true≢false, all-true, true-all}
 use Rattle.lent.proofs.Leasts.{lowest-least}
 use Rattle.lent.proofs.Writes.{length-write, write-before, write-after, write-nothing, write-next}
 use Rattle.paper.specs.declared.sizes.Sizes.{Sizes}
 use Rattle.paper.specs.declared.sizes.Run.{Run}
 use Rattle.paper.specs.Sizes.{capacityOf, startOf, roomOf}
 use Rattle.paper.specs.Index.{runOf, Laid, Booted}
-use Rattle.paper.specs.Store.{Write, perform, runFrom, freeTests, freeAt, freePlace, dataFrom}
+use Rattle.paper.specs.Store.{Write, perform, runFrom, manyOf, freeTests, freeAt, freePlace, dataFrom}
 use Rattle.paper.proofs.Sizing.{less, times}
-use Rattle.paper.proofs.Opening.{Shares, sharer-none, none-sharer, common-shares}
+use Rattle.paper.proofs.Opening.{inside-all, Shares, sharer-none, none-sharer, common-shares}
 use Rattle.paper.proofs.Frame.{Frame}
 
 -- ---- writes, one after the other
@@ -165,6 +165,22 @@ place-free z len run k h =
     let low : Lowest (freeAt z len run k) (roomOf z len) (freePlace z len run k) = lowest-least refl (omega arith) in
     free-facts z len run k (freePlace z len run k) (low .takes)
 
+-- and no further than right behind the last record in use, since no scan has those after it
+pub place-near : (z : Sizes) (len : ℕ) (run : ℕ → Run) (k : ℕ) → Laid z run → freePlace z len run k ≢ 0 → freePlace z len run k ≤ z .n + z .d + 1
+unfolding freePlace
+place-near z len run k L h =
+    let r : ℕ = freePlace z len run k in
+    let low : Lowest (freeAt z len run k) (roomOf z len) r = lowest-least refl (omega arith) in
+    ⊎-elim
+    (λ (far : z .n + z .d + 1 < r).
+    let w = free-facts z len run k r (low .takes) .within in
+    absurd (true≢false
+    (facts-free z len run k (r - 1)
+    (record { past = omega arith; within = omega arith; alone = λ s a b x. omega (arith, L .inside s a b .high, x .before) }))
+    (low .below (r - 1) (omega arith) (omega arith))))
+    (λ (near : r ≤ z .n + z .d + 1). near)
+    (lt-or-ge (z .n + z .d + 1) r)
+
 -- its records are no listed scan's
 pub free-nobody : {z : Sizes} {len : ℕ} {run : ℕ → Run} {k r : ℕ} → FreeAt z len run k r → Laid z run → (s q : ℕ) → 1 ≤ s → s ≤ capacityOf z → r ≤ q → q < r + k
     → run s .first ≤ q → q ≤ run s .last → ⊥
@@ -177,9 +193,28 @@ free-nobody {z} {len} {run} {k} {r} F L s q s₁ s₂ a b c d =
 pub room-in : (z : Sizes) (len q : ℕ) → q ≤ roomOf z len → q * z .l ≤ len
 room-in z len q h = omega (arith, times q (len / z .l) (z .l) (omega arith), div-mul-le-self len (z .l))
 
+-- k records from r on likewise
+pub rows-in : (z : Sizes) (len r k : ℕ) → 1 ≤ r → r + k ≤ roomOf z len + 1 → startOf z r + k * z .l ≤ len
+rows-in z len r k h w =
+    let e : (r + k - 1) * z .l ≡ startOf z r + k * z .l = ap (λ (x : ℕ). x * z .l) (omega arith) ∙ add-mul (r - 1) k (z .l) in
+    omega (arith, room-in z len (r + k - 1) (omega arith))
+
 -- and those in use lie within the room
 pub used-room : {f : List ℕ} {z : Sizes} → Booted f z → z .n + z .d ≤ roomOf z (length f)
 used-room {f} {z} b =
     let l : 1 ≤ z .l = omega (arith, b .ranged .shape .l-low) in
     let q : z .n + z .d ≤ length f / z .l = le-div-iff-mul-le l .1 (b .held) in
     omega (arith, b .ranged .records)
+
+-- ---- the records of a slot's scan
+
+-- many records from record r on, all of them data records in use
+pub record OldLies (z : Sizes) (r many : ℕ) : Type 0 where
+  pub past : z .n < r
+  pub within : r + many ≤ z .n + z .d + 1
+
+pub scan-lies : {z : Sizes} {run : ℕ → Run} → Laid z run → (s : ℕ) → 1 ≤ s → s ≤ capacityOf z → 0 < manyOf (run s)
+    → OldLies z (run s .first) (manyOf (run s))
+scan-lies L s a b h =
+    let l = inside-all L s a b in
+    record { past = l .low (omega arith); within = omega (arith, l .low (omega arith), l .high) }

@@ -20,9 +20,10 @@ use Rattle.paper.specs.Scan.{classesOf, startsOf, rule1, rule2, rule3, r
 use Rattle.paper.specs.Look.{linesOf, listedOf, listedOut, foundOf, showOf, readOf}
 use Rattle.paper.specs.Store.{freeAt, freePlace, emptySlot, saveOf, keepOf, clearOf, dataFrom, writesOf}
 use Rattle.paper.specs.Step.{agrees, stands}
+use Rattle.paper.specs.Gaps.{leftAt, gapsZero, gapsOf}
 use Rattle.paper.specs.Convert.{bootAs, scanAs, entryAs, entriesAs, recordsAs, otherMagic, wideRun, convertOf, convertedOut, joined}
 use Rattle.paper.specs.Lister.{digits, linesText, listText, printed}
-use Rattle.paper.specs.Known.{Refusals, Answers, Boot, OldBoot, Entries, Kinds, scan13, scan15, Scans, Rules, Index, Places, file, File, oldFile, OldFile, InBytes, Edges, Conversions, Parts, Agrees, Stands, Renewed, UsedNumber, Zeros, Prints}
+use Rattle.paper.specs.Known.{Refusals, Answers, Boot, OldBoot, Entries, Kinds, scan13, scan15, Scans, Rules, Index, Places, file, File, oldFile, OldFile, InBytes, Edges, Conversions, Parts, Agrees, Stands, Renewed, UsedNumber, OldRun, Gaps, Zeros, Prints}
 
 pub refusals : Refusals
 refusals =
@@ -59,6 +60,9 @@ answers =
       no-part = refl;
       accepted = refl;
       not-taken = refl;
+      yes = refl;
+      no = refl;
+      not-asked = refl;
       wrote = refl;
       saved = refl;
       cleared = refl;
@@ -390,6 +394,42 @@ usedNumber =
       two = refl;
       of-a-save = refl;
       third-is = refl;
+    }
+
+pub oldRun : OldRun
+unfolding number value digit bytes numbers int16 table every least greatest write zeros pad same exactly wholeFloat wholeOf ofBits lengthOf isWhole sizeOf wordAt counterOf typeOf bootBytes shaped inRange empty inData badAt aboveAt shares sharer sharedAt classesOf startsOf rule1 rule2 rule3 rule4 rule5 rule6 rising ruledOf entryBytes dataFrom writesOf clearOf agrees stands scan13 scan15 file
+oldRun =
+    record {
+      nothing = refl;
+      one = refl;
+      three = refl;
+      cleared = (refl, refl);
+      refused = (refl, refl);
+      total = refl;
+      first-zeros = refl;
+      then-zeros = refl;
+      no-more = refl;
+      all-data = refl;
+      counts = refl;
+      in-the-index = refl;
+      past-the-room = refl;
+      beyond = refl;
+      not-looked-at = refl;
+      zeros-stand = refl;
+      not-zeros = refl;
+      not-all = refl;
+    }
+
+pub gaps : Gaps
+unfolding number value digit bytes numbers least write zeros pad same exactly wholeFloat wholeOf ofBits wordAt counterOf typeOf bootBytes shaped inRange empty inData badAt aboveAt shares sharer sharedAt leftAt gapsZero gapsOf scan13 scan15 file
+gaps =
+    record {
+      listed = refl;
+      zeros = refl;
+      last-byte = refl;
+      left = refl;
+      beyond = refl;
+      refused = refl;
     }
 
 pub zeroed : Zeros

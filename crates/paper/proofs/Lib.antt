@@ -18,6 +18,7 @@ pub mod IndexLaw
 pub mod Ready
 pub mod Stages
 pub mod Begins
+pub mod Gaps
 pub mod Records
 pub mod Confirming
 pub mod Reading

@@ -5,34 +5,35 @@ use mathlib.Core.Bool.{Bool, true, false}
 use mathlib.Core.List.{List}
 use mathlib.Core.Logic.{_≢_, ⊎-elim}
 use native.Mathlib.Omega.{arith}
-use native.Mathlib.Nat.{mod-lt}
+use native.Mathlib.Nat.{mod-lt, zero-mul}
 use lib.ListN.{length, take, getD}
 use lib.Seq.{take-all}
-use Rattle.lent.proofs.Lists.{lt-or-ge}
-use Rattle.lent.proofs.Writes.{write-nothing}
+use Rattle.lent.proofs.Lists.{lt-or-ge, same-or}
+use Rattle.lent.proofs.Writes.{length-zeros, write-nothing}
 use Rattle.lent.specs.Part.{part, Alike}
-use Rattle.lent.specs.Write.{write}
-use Rattle.lent.proofs.Parts.{part-same, alike-after}
+use Rattle.lent.specs.Write.{write, zeros}
+use Rattle.lent.proofs.Parts.{part-same, part-none, part-in, alike-after}
 use Rattle.paper.specs.declared.sizes.Sizes.{Sizes}
 use Rattle.paper.specs.declared.sizes.Run.{Run}
 use Rattle.paper.specs.declared.job.Job.{Job}
 use Rattle.paper.specs.Sizes.{sizesOf, bootBytes, renewed, capacityOf, startOf, homeOf}
 use Rattle.paper.specs.Index.{runOf, Full, shownOf, entryAt, Lies, Sound}
 use Rattle.paper.specs.Entry.{entryBytes}
-use Rattle.paper.specs.Store.{Write, perform, countOf, paddedOf, highest, dataWrites, counterAfter, sizesAfter, entryAfter, sizesWrite, bootWrite, entryWrite, lowersOf, lowered, totalOf, writesOf}
-use Rattle.paper.specs.Step.{noWrite}
+use Rattle.paper.specs.Store.{Write, perform, countOf, paddedOf, highest, dataWrites, counterAfter, sizesAfter, entryAfter, sizesWrite, bootWrite, entryWrite, lowersOf, lowered, manyOf, dataFrom, zeroWrites, changeOf, totalOf, writesOf}
+use Rattle.paper.specs.Step.{noWrite, rowsAt}
 use Rattle.paper.proofs.Sizing.{head-long}
-use Rattle.paper.proofs.Opening.{lies-past}
-use Rattle.paper.proofs.Writes.{total-plain, total-lowers, total-most, length-rows, writes-data, writes-boot, writes-entry, writes-lower, writes-past}
+use Rattle.paper.proofs.Opening.{apart-all, lies-past}
+use Rattle.paper.proofs.Writes.{change-plain, change-lowers, change-most, length-data, length-rows, writes-data, writes-old, writes-boot, writes-entry, writes-lower, writes-past}
 use Rattle.paper.proofs.Encoding.{statedBy, length-boot}
 use Rattle.paper.proofs.Frame.{Frame, Kept, kept-refl, kept-then, frame-kept, frame-sound}
-use Rattle.paper.proofs.Free.{performs, performs-suc, Every, every-take, Free, frame-refl, frame-writes, used-room}
+use Rattle.paper.proofs.Free.{performs, performs-suc, Every, every-take, Free, frame-refl, frame-writes, data-free, data-all, room-in, rows-in, used-room, OldLies, scan-lies}
 use Rattle.paper.proofs.Used.{highest-le, highest-full, highest-above, highest-is, highest-kept}
 use Rattle.paper.proofs.Bootstrap.{Covers, covers-more, covers-kept, boot-kept, boot-renewed, boot-length}
 use Rattle.paper.proofs.IndexLaw.{Alone, index-sound, index-length, run-new, run-other, shown-new, shown-other, entry-new, entry-other}
 
 -- what makes a job's writes safe on the file f: the data records are free, record 1's new D and U leave every scan in, the entry names records that no
--- other slot has, which then hold the padded scan, and where U is not lowered at the end, the entry is a scan's or a higher slot has one
+-- other slot has, which then hold the padded scan, and where U is not lowered at the end, the entry is a scan's or a higher slot has one; the old run is
+-- that of the slot's present scan, none of whose records is in the new one; and the records that D takes in are all the entry's
 pub record Ready (z : Sizes) (f scan : List ℕ) (j : Job) : Type 0 where
   pub sound : Sound f z
   pub current : z .version ≡ 1
@@ -46,7 +47,12 @@ pub record Ready (z : Sizes) (f scan : List ℕ) (j : Job) : Type 0 where
   pub from : startOf z (statedBy (entryAfter z j) .first) ≡ startOf z (j .first)
   pub to : statedBy (entryAfter z j) .last * z .l ≡ startOf z (j .first) + countOf z j * z .l
   pub settles : lowersOf j ≡ false → statedBy (entryAfter z j) .first + statedBy (entryAfter z j) .last ≡ 0 → j .slot < highest f z
-  pub gives : part (startOf z (j .first)) (startOf z (j .first) + countOf z j * z .l) (performs f (dataWrites z j scan)) ≡ paddedOf z j scan
+  pub gives : rowsAt (performs f (dataWrites z j scan)) z (j .first) (countOf z j) ≡ paddedOf z j scan
+  pub old-is : j .old ≡ runOf f z (j .slot) .first
+  pub many-is : j .many ≡ manyOf (runOf f z (j .slot))
+  pub old-apart : (r : ℕ) → z .n < r → runOf f z (j .slot) .first ≤ r → r ≤ runOf f z (j .slot) .last → statedBy (entryAfter z j) .first ≤ r
+      → r ≤ statedBy (entryAfter z j) .last → ⊥
+  pub near : (r : ℕ) → z .n + z .d < r → r ≤ z .n + sizesAfter f z j .d → (statedBy (entryAfter z j) .first ≤ r) × (r ≤ statedBy (entryAfter z j) .last)
 
 -- the file after the first i writes, each as the file that stands when its turn comes has it
 unfoldable pub fileAt : List ℕ → List ℕ → Job → ℕ → List ℕ
@@ -62,6 +68,17 @@ pub file-next : (f scan : List ℕ) (j : Job) (i : ℕ) (y : Sizes) (w : Write) 
     → fileAt f scan j (suc i) ≡ perform (fileAt f scan j i) w
 unfolding fileAt
 file-next f scan j i y w e h = ap (λ (x : Sizes). perform (fileAt f scan j i) (getD (writesOf (fileAt f scan j i) x j scan) i noWrite)) e ∙ ap (perform (fileAt f scan j i)) h
+
+-- writes to free records from place p on, one after the other: the sizes stay, so each is as the list of them has it
+stretch : (f scan : List ℕ) (j : Job) (p : ℕ) {g : List ℕ} (y : Sizes) (ws : List Write) → fileAt f scan j p ≡ g → Sound g y → Every (Free y g) ws
+    → ((x : List ℕ) (m : ℕ) → m < length ws → getD (writesOf x y j scan) (p + m) noWrite ≡ getD ws m noWrite) → (m : ℕ) → m ≤ length ws
+    → fileAt f scan j (p + m) ≡ performs g (take m ws)
+stretch f scan j p y ws a S F w zero h = ap (fileAt f scan j) (omega arith) ∙ a
+stretch f scan j p {g} y ws a S F w (suc m) h =
+    let e = stretch f scan j p y ws a S F w m (omega arith) in
+    let r : sizesOf (fileAt f scan j (p + m)) ≡ y = rw e (frame-sound S (frame-writes y g g (take m ws) (frame-refl y g) (every-take (Free y g) m ws F)) .booted .reads) in
+    ap (fileAt f scan j) (omega arith) ∙ file-next f scan j (p + m) y (getD ws m noWrite) r (w (fileAt f scan j (p + m)) m (omega arith))
+    ∙ ap (λ (x : List ℕ). perform x (getD ws m noWrite)) e ∙ sym (performs-suc g ws m noWrite (omega arith))
 
 -- once record 1 is written, its D and counter stay
 pub record Late (f : List ℕ) (z : Sizes) (j : Job) (g : List ℕ) : Type 0 where
@@ -99,12 +116,11 @@ module _ {z : Sizes} {f scan : List ℕ} {j : Job} (Y : Ready z f scan j) where
   frame i = frame-writes z f f (take i ds) (frame-refl z f) (every-take (Free z f) i ds (Y .free))
 
   rows : (i : ℕ) → i ≤ K → fileAt f scan j i ≡ performs f (take i ds)
-  rows zero h = file-start f scan j
-  rows (suc i) h =
-      let e = rows i (omega arith) in
-      let r : sizesOf (fileAt f scan j i) ≡ z = rw e (frame-sound (Y .sound) (frame i) .booted .reads) in
-      file-next f scan j i z (getD ds i noWrite) r (writes-data (fileAt f scan j i) z j scan i (omega arith)) ∙ ap (λ (g : List ℕ). perform g (getD ds i noWrite)) e
-      ∙ sym (performs-suc f ds i noWrite (omega (arith, length-rows f z j scan)))
+  rows i h =
+      let n = length-rows f z j scan in
+      ap (fileAt f scan j) (omega arith)
+      ∙ stretch f scan j 0 z ds (file-start f scan j) (Y .sound) (Y .free)
+      (λ g m k. ap (λ (x : ℕ). getD (writesOf g z j scan) x noWrite) (omega arith) ∙ writes-data g z j scan m (omega arith)) i (omega arith)
 
   pub rows-frame : (i : ℕ) → i ≤ countOf z j → Frame z f (fileAt f scan j i)
   rows-frame i h = rw (rows i h) (frame i)
@@ -220,11 +236,14 @@ module _ {z : Sizes} {f scan : List ℕ} {j : Job} (Y : Ready z f scan j) where
       full-or : (statedBy E .first + statedBy E .last ≡ 0 → ⊥) → Full (statedBy E)
       full-or never = ⊎-elim (λ (h : Full (statedBy E)). h) (λ (h : statedBy E .first + statedBy E .last ≤ 0). absurd (never (omega arith))) (lt-or-ge 0 (statedBy E .first + statedBy E .last))
 
-  -- the file after the last write shows what it did after the entry, and its U is the highest slot with a scan
+  -- the file after the change shows what it did after the entry, and its U is the highest slot with a scan
   record Settled (g : List ℕ) : Type 0 where
     sound : Sound g (renewed z (z′ .d) (highest g z) (z′ .counter))
     kept : Kept z H g
     len : length g ≡ length f
+
+  abbrev C : ℕ
+  C = changeOf z j
 
   abbrev T : ℕ
   T = totalOf z j
@@ -236,9 +255,9 @@ module _ {z : Sizes} {f scan : List ℕ} {j : Job} (Y : Ready z f scan j) where
   lower-covers : Covers z′ (runOf H z′) (length H) (z′ .d) (highest H z)
   lower-covers = covers-more end-sound (omega arith) (omega arith) (used-room (end-sound .booted)) (highest-le H z)
 
-  settled : (t : Bool) → lowersOf j ≡ t → Settled (fileAt f scan j T)
+  settled : (t : Bool) → lowersOf j ≡ t → Settled (fileAt f scan j C)
   settled true t =
-      let e : T ≡ suc (suc (suc K)) = omega (arith, total-lowers z j t) in
+      let e : C ≡ suc (suc (suc K)) = omega (arith, change-lowers z j t) in
       let k = boot-kept end-sound lower-covers (Y .current) (z′ .counter) counts in
       let k′ : Kept z H (write H 0 (bootBytes (lowered H z′))) = record { runs = k .runs; shown = k .shown; entries = k .entries } in
       subst Settled (sym (ap (fileAt f scan j) e ∙ lower-file t))
@@ -248,42 +267,126 @@ module _ {z : Sizes} {f scan : List ℕ} {j : Job} (Y : Ready z f scan j) where
         len = boot-length end-sound lower-covers (Y .current) (z′ .counter) counts ∙ end-len;
       })
   settled false t =
-      let e : T ≡ suc (suc K) = omega (arith, total-plain z j t) in
+      let e : C ≡ suc (suc K) = omega (arith, change-plain z j t) in
       subst Settled (sym (ap (fileAt f scan j) e))
       (record { sound = rw (stays-top t) end-sound; kept = kept-refl z H; len = end-len })
 
-  -- past the last write the file stays
+  -- ---- zeros over the old run
+
+  abbrev B : List ℕ
+  B = fileAt f scan j C
+
+  base : Settled B
+  base = settled (lowersOf j) refl
+
+  abbrev y : Sizes
+  y = renewed z (z′ .d) (highest B z) (z′ .counter)
+
+  abbrev os : List Write
+  os = zeroWrites y j
+
+  old-lies : 0 < j .many → OldLies z (j .old) (j .many)
+  old-lies h = rw (Y .old-is, Y .many-is) (scan-lies (Y .sound .laid) (j .slot) (Y .low) (Y .high) (rw (Y .many-is) at h))
+
+  -- the records that the entry has given up: no slot has them now
+  old-nobody : (s r : ℕ) → 1 ≤ s → s ≤ capacityOf z → j .old ≤ r → r < j .old + j .many → runOf B z s .first ≤ r → r ≤ runOf B z s .last → ⊥
+  old-nobody s r a b lo hi p q =
+      let o = old-lies (omega arith) in
+      let n : z .n < r = omega (arith, o .past) in
+      let x : runOf f z (j .slot) .first ≤ r = omega (arith, Y .old-is) in
+      let w : r ≤ runOf f z (j .slot) .last = omega (arith, Y .old-is, Y .many-is, o .past) in
+      let e = base .kept .runs s a b in
+      ⊎-elim
+      (λ (h : s ≡ j .slot).
+      let i : runOf B z s ≡ statedBy E = e ∙ ap (runOf H z) h ∙ end-run in
+      Y .old-apart r n x w (omega (arith, ap (λ (v : Run). v .first) i)) (omega (arith, ap (λ (v : Run). v .last) i)))
+      (λ (h : s ≢ j .slot).
+      let i : runOf B z s ≡ runOf f z s = e ∙ end-runs s a b h in
+      apart-all (Y .sound .laid) s (j .slot) r a b (Y .low) (Y .high) h n (omega (arith, ap (λ (v : Run). v .first) i)) (omega (arith, ap (λ (v : Run). v .last) i)) x w)
+      (same-or s (j .slot))
+
+  old-free : Every (Free y B) os
+  unfolding dataFrom
+  old-free = free (j .many) refl
+    where
+      free : (k : ℕ) → j .many ≡ k → Every (Free y B) (dataFrom y (j .old) k (zeros (k * z .l)))
+      free zero e = tt
+      free (suc k) e =
+          let o = old-lies (omega arith) in
+          data-free y B (suc k) (j .old) (zeros (suc k * z .l)) (length-zeros (suc k * z .l)) (o .past)
+          (λ q a b. rw (base .len) (room-in z (length f) q (omega (arith, o .within, used-room (Y .sound .booted)))))
+          (λ s q a b lo hi. old-nobody s q a (omega (arith, highest-le B z)) lo (omega arith))
+
+  old-frame : (m : ℕ) → Frame y B (performs B (take m os))
+  old-frame m = frame-writes y B B (take m os) (frame-refl y B) (every-take (Free y B) m os old-free)
+
+  length-old : length os ≡ j .many
+  length-old = length-data y (j .old) (j .many) (zeros (j .many * z .l))
+
+  old-file : (m : ℕ) → m ≤ j .many → fileAt f scan j (C + m) ≡ performs B (take m os)
+  old-file m h = stretch f scan j C y os refl (base .sound) old-free (λ g i k. writes-old g y j scan (C + i) i refl) m (omega (arith, length-old))
+
+  -- wherever it is stopped the file is settled
+  framed : {g : List ℕ} → Frame y B g → Settled g
+  framed {g} F =
+      let k = frame-kept (base .sound) F in
+      let k′ : Kept z B g = record { runs = k .runs; shown = k .shown; entries = k .entries } in
+      record { sound = rw (highest-kept k′) (frame-sound (base .sound) F); kept = kept-then (base .kept) k′; len = F .len ∙ base .len }
+
+  old-settled : (i : ℕ) → C ≤ i → i ≤ T → Settled (fileAt f scan j i)
+  old-settled i a b =
+      let e : i ≡ C + (i - C) = omega arith in
+      subst Settled (sym (ap (fileAt f scan j) e ∙ old-file (i - C) (omega arith))) (framed (old-frame (i - C)))
+
+  -- ---- past the last write the file stays
+
   stays : (m : ℕ) → fileAt f scan j (m + T) ≡ fileAt f scan j T
   stays zero = ap (fileAt f scan j) (omega arith)
   stays (suc m) =
       let e = stays m in
-      let y : Sizes = renewed z (z′ .d) (highest (fileAt f scan j T) z) (z′ .counter) in
-      let r : sizesOf (fileAt f scan j (m + T)) ≡ y = rw e (settled (lowersOf j) refl .sound .booted .reads) in
+      let x : Sizes = renewed z (z′ .d) (highest (fileAt f scan j T) z) (z′ .counter) in
+      let r : sizesOf (fileAt f scan j (m + T)) ≡ x = rw e (old-settled T (omega arith) (omega arith) .sound .booted .reads) in
       ap (fileAt f scan j) (omega arith)
-      ∙ file-next f scan j (m + T) y noWrite r (writes-past (fileAt f scan j (m + T)) y j scan (m + T) (omega arith)) ∙ write-nothing _ 0 ∙ e
+      ∙ file-next f scan j (m + T) x noWrite r (writes-past (fileAt f scan j (m + T)) x j scan (m + T) (omega arith)) ∙ write-nothing _ 0 ∙ e
 
   pub end-stays : (i : ℕ) → totalOf z j ≤ i → fileAt f scan j i ≡ fileAt f scan j (totalOf z j)
   end-stays i h = ap (fileAt f scan j) (omega arith) ∙ stays (i - T)
 
-  ended : (i : ℕ) → T ≤ i → Settled (fileAt f scan j i)
-  ended i h = rw (end-stays i h) (settled (lowersOf j) refl)
+  -- all of the old run is zeros
+  pub end-zeros : (i : ℕ) → totalOf z j ≤ i → rowsAt (fileAt f scan j i) z (j .old) (j .many) ≡ zeros (j .many * z .l)
+  unfolding zeros
+  end-zeros i h = rw (end-stays i h ∙ old-file (j .many) (omega arith) ∙ ap (performs B) (take-all (j .many) os (omega (arith, length-old)))) (done (j .many) refl)
+    where
+      done : (k : ℕ) → j .many ≡ k → rowsAt (performs B (dataFrom y (j .old) k (zeros (k * z .l)))) z (j .old) k ≡ zeros (k * z .l)
+      done zero e = part-none (startOf z (j .old)) (startOf z (j .old) + 0 * z .l) _ (omega (arith, zero-mul (z .l))) ∙ sym (ap zeros (zero-mul (z .l)))
+      done (suc k) e =
+          let o = old-lies (omega arith) in
+          let n = length-zeros (suc k * z .l) in
+          let fits : startOf z (j .old) + suc k * z .l ≤ length B =
+          omega (arith, base .len, rows-in z (length f) (j .old) (suc k) (omega (arith, o .past)) (omega (arith, o .within, used-room (Y .sound .booted)))) in
+          ap (part (startOf z (j .old)) (startOf z (j .old) + suc k * z .l)) (data-all y (suc k) B (j .old) (zeros (suc k * z .l)) n (omega (arith, o .past)) fits)
+          ∙ ap (λ (x : ℕ). part (startOf z (j .old)) (startOf z (j .old) + x) (write B (startOf z (j .old)) (zeros (suc k * z .l)))) (sym n)
+          ∙ part-in B (startOf z (j .old)) (zeros (suc k * z .l)) (omega (arith, fits))
 
-  -- so then U is the highest slot with a scan
-  pub last-sound : (i : ℕ) → totalOf z j ≤ i → Sound (fileAt f scan j i) (renewed z (sizesAfter f z j .d) (highest (fileAt f scan j i) z) (counterAfter z))
+  ended : (i : ℕ) → C ≤ i → Settled (fileAt f scan j i)
+  ended i h =
+      ⊎-elim (λ (a : i < T). old-settled i h (omega arith)) (λ (a : T ≤ i). rw (end-stays i a) (old-settled T (omega arith) (omega arith))) (lt-or-ge i T)
+
+  -- so once the change is made U is the highest slot with a scan
+  pub last-sound : (i : ℕ) → changeOf z j ≤ i → Sound (fileAt f scan j i) (renewed z (sizesAfter f z j .d) (highest (fileAt f scan j i) z) (counterAfter z))
   last-sound i h = ended i h .sound
 
   -- the entry or what is after it
-  after-entry : (P : List ℕ → Type 0) → P H → ((i : ℕ) → T ≤ i → P (fileAt f scan j i)) → (i : ℕ) → K + 2 ≤ i → P (fileAt f scan j i)
+  after-entry : (P : List ℕ → Type 0) → P H → ((i : ℕ) → C ≤ i → P (fileAt f scan j i)) → (i : ℕ) → K + 2 ≤ i → P (fileAt f scan j i)
   after-entry P h l i k =
-      ⊎-elim (λ (a : i < T). let e : i ≡ suc (suc K) = omega (arith, total-most z j) in rw e h) (λ (a : T ≤ i). l i a) (lt-or-ge i T)
+      ⊎-elim (λ (a : i < C). let e : i ≡ suc (suc K) = omega (arith, change-most z j) in rw e h) (λ (a : C ≤ i). l i a) (lt-or-ge i C)
 
   -- from the entry on the file shows the same
   pub end-keeps : (i : ℕ) → countOf z j + 2 ≤ i → Kept z (fileAt f scan j (suc (suc (countOf z j)))) (fileAt f scan j i)
   end-keeps = after-entry (Kept z H) (kept-refl z H) (λ i h. ended i h .kept)
 
   -- the padded scan, at the records that the job names
-  pub end-rows : (i : ℕ) → countOf z j + 2 ≤ i
-      → part (startOf z (j .first)) (startOf z (j .first) + countOf z j * z .l) (fileAt f scan j i) ≡ paddedOf z j scan
+  pub end-rows : (i : ℕ) → countOf z j + 2 ≤ i → rowsAt (fileAt f scan j i) z (j .first) (countOf z j) ≡ paddedOf z j scan
   end-rows i h =
       let g : List ℕ = fileAt f scan j i in
       let k = end-keeps i h in

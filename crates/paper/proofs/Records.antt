@@ -15,7 +15,7 @@ use Rattle.paper.specs.Store.{Write, runFrom, countOf, paddedOf, entryAf
 use Rattle.paper.specs.Step.{noWrite}
 use Rattle.paper.proofs.Sizing.{times, home-is}
 use Rattle.paper.proofs.Encoding.{length-boot, length-entry}
-use Rattle.paper.proofs.Writes.{length-writes, phases, writes-row, writes-boot, writes-entry, writes-lower}
+use Rattle.paper.proofs.Writes.{length-writes, phases, writes-row, writes-boot, writes-entry, writes-lower, writes-zero}
 
 -- the bytes of w lie in its record
 pub record InRecord (z : Sizes) (w : Write) : Type 0 where
@@ -67,3 +67,4 @@ module _ (z : Sizes) (R : Shaped z) where
       (λ b. subst (InRecord z) (sym (writes-boot f z j scan i b)) (boot-in (sizesAfter f z j)))
       (λ b. subst (InRecord z) (sym (writes-entry f z j scan i b)) (entry-in j h))
       (λ b t. subst (InRecord z) (sym (writes-lower f z j scan i b t)) (boot-in (lowered f z)))
+      (λ m b t. subst (InRecord z) (sym (writes-zero f z j scan i m b t)) (record { from = omega arith; to = omega (arith, length-zeros (z .l)) }))

@@ -18,7 +18,7 @@ use Rattle.paper.specs.Step.{agrees, noWrite, writeAt, stepFile, placed,
 use Rattle.paper.proofs.Opening.{sound-open}
 use Rattle.paper.proofs.Writes.{writes-past}
 use Rattle.paper.proofs.Agreement.{agreeing, step-file, job-head, job-past, answer-wrote, answer-past, standing}
-use Rattle.paper.proofs.Ready.{Ready, fileAt, file-start, file-next, along, end-stays, end-keeps, end-entry, end-rows}
+use Rattle.paper.proofs.Ready.{Ready, fileAt, file-start, file-next, along, end-stays, end-keeps, end-entry, end-rows, end-zeros}
 
 -- the job after i steps: its place in the list, and the file's first 32 bytes, on which it was begun or which it wrote
 abbrev pub jobAt : Sizes → List ℕ → List ℕ → Job → ℕ → Job
@@ -69,6 +69,8 @@ module _ {z : Sizes} {f scan : List ℕ} {j : Job} (Y : Ready z f scan j) (A : A
         past = A .past;
         within = rw (a .len) (A .within);
         left = omega arith;
+        old-past = A .old-past;
+        old-within = rw (a .len) (A .old-within);
       })
 
   -- the write of each step is the list's next
@@ -119,7 +121,7 @@ module _ {z : Sizes} {f scan : List ℕ} {j : Job} (Y : Ready z f scan j) (A : A
       let late : countOf z j + 2 ≤ i = omega arith in
       let entry : entryAt (F i) z (j .slot) ≡ entryAfter y (J i) =
       end-keeps Y i late .entries (j .slot) (A .low) (A .high) ∙ end-entry Y ∙ sym (entry-placed z (a .d) (a .u) (a .c) j (min i T) (take 32 (F i))) in
-      let s : stands (F i) scan (J i) y ≡ true = standing (F i) scan (J i) y (record { entry = entry; rows = end-rows Y i late }) in
+      let s : stands (F i) scan (J i) y ≡ true = standing (F i) scan (J i) y (record { entry = entry; rows = end-rows Y i late; gone = end-zeros Y i h }) in
       answer-past (F i) scan (J i) y (at-agrees i) (a .sound .booted .reads) (omega arith)
       ∙ ap (confirmOf (F i) scan (J i)) (sound-open (a .sound))
       ∙ rw (s, e)

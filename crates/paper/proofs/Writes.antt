@@ -8,13 +8,13 @@ use native.Mathlib.Omega.{arith}
 use native.Mathlib.Nat.{add-zero, add-comm, suc-mul, zero-mul, le-div-iff-mul-le, lt-div-mul-add}
 use lib.ListN.{length, take, drop, getD, length-append, length-take, length-drop, List·getD-append, List·getD-eq-default}
 use lib.Seq.{getD-append-add, getD-take, getD-drop, drop-drop, length-take-le, ext-getD}
-use Rattle.lent.specs.Write.{pad}
+use Rattle.lent.specs.Write.{zeros, pad}
 use Rattle.lent.proofs.Lists.{lt-or-ge}
-use Rattle.lent.proofs.Writes.{length-zeros, length-pad, pad-at}
+use Rattle.lent.proofs.Writes.{length-zeros, getD-zeros, all-zeros, length-pad, pad-at}
 use Rattle.paper.specs.declared.sizes.Sizes.{Sizes}
 use Rattle.paper.specs.declared.job.Job.{Job}
 use Rattle.paper.specs.Sizes.{startOf}
-use Rattle.paper.specs.Store.{Write, recordsFor, countOf, paddedOf, dataFrom, dataWrites, sizesWrite, bootWrite, entryWrite, lowersOf, lowered, lowerWrites, totalOf, writesOf}
+use Rattle.paper.specs.Store.{Write, recordsFor, countOf, paddedOf, dataFrom, dataWrites, sizesWrite, bootWrite, entryWrite, lowersOf, lowered, lowerWrites, zeroWrites, changeOf, totalOf, writesOf}
 use Rattle.paper.specs.Step.{noWrite}
 use Rattle.paper.proofs.Sizing.{times}
 
@@ -45,6 +45,15 @@ data-at z (suc k) r bs (suc i) d h =
     data-at z k (r + 1) (drop (z .l) bs) i d (omega arith)
     ∙ rw (drop-drop (i * z .l) (z .l) bs, a, suc-mul i (z .l), add-comm (i * z .l) (z .l)) refl
 
+-- of records of zeros, each is
+zero-row : (l k i : ℕ) → i < k → take l (drop (i * l) (zeros (k * l))) ≡ zeros l
+zero-row l k i h =
+    let t : suc i * l ≤ k * l = times (suc i) k l h in
+    let e : suc i * l ≡ i * l + l = suc-mul i l in
+    let n : length (drop (i * l) (zeros (k * l))) ≡ k * l - i * l = length-drop (i * l) (zeros (k * l)) ∙ omega (arith, length-zeros (k * l)) in
+    all-zeros l (take l (drop (i * l) (zeros (k * l)))) (length-take-le l (drop (i * l) (zeros (k * l))) (omega arith))
+    (λ o g. getD-take l (drop (i * l) (zeros (k * l))) o 0 g ∙ getD-drop (i * l) (zeros (k * l)) o 0 ∙ getD-zeros (k * l) (i * l + o))
+
 -- ---- the whole list, by place
 
 -- what stands after the data records
@@ -65,7 +74,8 @@ module _ (f : List ℕ) (z : Sizes) (j : Job) (scan : List ℕ) where
   unfolding writesOf
   length-writes =
       let l = length-or (lowersOf j) (sizesWrite (lowered f z)) in
-      length-append (dataWrites z j scan) _ ∙ omega (arith, length-rows)
+      let o = length-data z (j .old) (j .many) (zeros (j .many * z .l)) in
+      length-append (dataWrites z j scan) _ ∙ omega (arith, length-rows, length-append (lowerWrites f z j) (zeroWrites z j))
 
   pub writes-data : (i : ℕ) → i < countOf z j → getD (writesOf f z j scan) i noWrite ≡ getD (dataWrites z j scan) i noWrite
   unfolding writesOf
@@ -77,7 +87,8 @@ module _ (f : List ℕ) (z : Sizes) (j : Job) (scan : List ℕ) where
   writes-row i h = writes-data i h ∙ data-at z (countOf z j) (j .first) (paddedOf z j scan) i noWrite h
 
   -- at place i after them
-  end-of : (k i : ℕ) → i ≡ countOf z j + k → getD (writesOf f z j scan) i noWrite ≡ getD (bootWrite f z j ∷ entryWrite z j ∷ lowerWrites f z j) k noWrite
+  end-of : (k i : ℕ) → i ≡ countOf z j + k
+      → getD (writesOf f z j scan) i noWrite ≡ getD (bootWrite f z j ∷ entryWrite z j ∷ (lowerWrites f z j ++ zeroWrites z j)) k noWrite
   unfolding writesOf
   end-of k i e = rw e (end-at (dataWrites z j scan) _ (countOf z j) k length-rows)
 
@@ -88,34 +99,55 @@ module _ (f : List ℕ) (z : Sizes) (j : Job) (scan : List ℕ) where
   writes-entry i e = end-of 1 i e
 
   pub writes-lower : (i : ℕ) → i ≡ countOf z j + 2 → lowersOf j ≡ true → getD (writesOf f z j scan) i noWrite ≡ sizesWrite (lowered f z)
-  writes-lower i e t = end-of 2 i e ∙ ap (λ (b : Bool). getD (cond b (sizesWrite (lowered f z) ∷ []) []) 0 noWrite) t
+  writes-lower i e t = end-of 2 i e ∙ ap (λ (b : Bool). getD (cond b (sizesWrite (lowered f z) ∷ []) [] ++ zeroWrites z j) 0 noWrite) t
+
+  -- after the change itself
+  pub writes-old : (i m : ℕ) → i ≡ changeOf z j + m → getD (writesOf f z j scan) i noWrite ≡ getD (zeroWrites z j) m noWrite
+  writes-old i m e =
+      let c : ℕ = cond (lowersOf j) 1 0 in
+      end-of (2 + (c + m)) i (omega arith)
+      ∙ end-at (bootWrite f z j ∷ entryWrite z j ∷ []) (lowerWrites f z j ++ zeroWrites z j) 2 (c + m) refl
+      ∙ end-at (lowerWrites f z j) (zeroWrites z j) c m (length-or (lowersOf j) (sizesWrite (lowered f z)))
+
+  pub writes-zero : (i m : ℕ) → i ≡ changeOf z j + m → m < j .many
+      → getD (writesOf f z j scan) i noWrite ≡ record { at = startOf z (j .old + m); bytes = zeros (z .l); record-no = j .old + m }
+  writes-zero i m e h =
+      writes-old i m e ∙ data-at z (j .many) (j .old) (zeros (j .many * z .l)) m noWrite h
+      ∙ ap (λ (bs : List ℕ). record { at = startOf z (j .old + m); bytes = bs; record-no = j .old + m }) (zero-row (z .l) (j .many) m h)
 
   pub writes-past : (i : ℕ) → totalOf z j ≤ i → getD (writesOf f z j scan) i noWrite ≡ noWrite
   writes-past i h = List·getD-eq-default (writesOf f z j scan) noWrite (omega (arith, length-writes))
 
--- how many in all, by whether U is lowered
+-- the lowered U is one write at most
+pub at-most-one : (k : ℕ) (t : Bool) → k + 2 + cond {A = ℕ} t 1 0 ≤ k + 3
+at-most-one k true = omega arith
+at-most-one k false = omega arith
+
+-- how many make the change, by whether U is lowered
 module _ (z : Sizes) (j : Job) where
-  pub total-plain : lowersOf j ≡ false → totalOf z j ≡ countOf z j + 2
-  total-plain t = omega (arith, ap (λ (b : Bool). cond {A = ℕ} b 1 0) t)
+  pub change-plain : lowersOf j ≡ false → changeOf z j ≡ countOf z j + 2
+  change-plain t = omega (arith, ap (λ (b : Bool). cond {A = ℕ} b 1 0) t)
 
-  pub total-lowers : lowersOf j ≡ true → totalOf z j ≡ countOf z j + 3
-  total-lowers t = omega (arith, ap (λ (b : Bool). cond {A = ℕ} b 1 0) t)
+  pub change-lowers : lowersOf j ≡ true → changeOf z j ≡ countOf z j + 3
+  change-lowers t = omega (arith, ap (λ (b : Bool). cond {A = ℕ} b 1 0) t)
 
-  pub total-most : totalOf z j ≤ countOf z j + 3
-  total-most = go (lowersOf j)
-    where
-      go : (t : Bool) → countOf z j + 2 + cond {A = ℕ} t 1 0 ≤ countOf z j + 3
-      go true = omega arith
-      go false = omega arith
+  pub change-most : changeOf z j ≤ countOf z j + 3
+  change-most = at-most-one (countOf z j) (lowersOf j)
 
--- the place of a write that is left: a data record's, record 1's, the entry's or the lowered U's
+-- the place of a write that is left: a data record's, record 1's, the entry's, the lowered U's or a zeroed record's
 pub phases : (P : Type 0) (z : Sizes) (j : Job) (i : ℕ) → i < totalOf z j
-    → (i < countOf z j → P) → (i ≡ countOf z j → P) → (i ≡ countOf z j + 1 → P) → (i ≡ countOf z j + 2 → lowersOf j ≡ true → P) → P
-phases P z j i h row boot entry lower =
+    → (i < countOf z j → P) → (i ≡ countOf z j → P) → (i ≡ countOf z j + 1 → P) → (i ≡ countOf z j + 2 → lowersOf j ≡ true → P)
+    → ((m : ℕ) → i ≡ changeOf z j + m → m < j .many → P) → P
+phases P z j i h row boot entry lower old =
     ⊎-elim row
     (λ (a : countOf z j ≤ i).
     ⊎-elim (λ (b : i < countOf z j + 1). boot (omega arith))
-    (λ (b : countOf z j + 1 ≤ i). ⊎-elim (λ (c : i < countOf z j + 2). entry (omega arith)) (λ (c : countOf z j + 2 ≤ i). last (lowersOf j) refl h c) (lt-or-ge i (countOf z j + 2)))
+    (λ (b : countOf z j + 1 ≤ i).
+    ⊎-elim (λ (c : i < countOf z j + 2). entry (omega arith))
+    (λ (c : countOf z j + 2 ≤ i).
+    ⊎-elim (λ (d : i < changeOf z j). last (lowersOf j) refl d c) (λ (d : changeOf z j ≤ i). old (i - changeOf z j) (omega arith) (omega arith))
+    (lt-or-ge i (changeOf z j)))
+    (lt-or-ge i (countOf z j + 2)))
     (lt-or-ge i (countOf z j + 1)))
     (lt-or-ge i (countOf z j))
   where

@@ -20,18 +20,21 @@ use Rattle.paper.specs.declared.answer.Ruled.the-variants.{Keeps, Breaks
 use Rattle.paper.specs.declared.answer.Span.the-variants as span
 use Rattle.paper.specs.declared.answer.Span.the-variants.{Part}
 use Rattle.paper.specs.declared.answer.Taken.the-variants as taken
+use Rattle.paper.specs.declared.answer.Asked.the-variants as asked
+use Rattle.paper.specs.declared.answer.Asked.the-variants.{Is}
 use Rattle.paper.specs.declared.entry.Kind.the-variants.{Spectral, Continuum, Other}
 use Rattle.paper.specs.declared.entry.Entry.{Entry}
 use Rattle.paper.specs.declared.job.Job.{Job}
 use Rattle.paper.specs.declared.job.Step.the-variants as step
-use Rattle.paper.specs.Refusals.{Says, refuses, openedSays, listedSays, spanSays, takenSays, stepSays, kindSays}
+use Rattle.paper.specs.Refusals.{Says, refuses, openedSays, listedSays, spanSays, takenSays, askedSays, stepSays, kindSays}
 use Rattle.paper.specs.Sizes.{sizesOf, versionOf, wordAt, bootBytes}
 use Rattle.paper.specs.Index.{indexOf, openOf}
 use Rattle.paper.specs.Entry.{kindOf, magicOf, versionOne, fieldsOf, noEntry, entryBytes}
 use Rattle.paper.specs.Scan.{classesOf, startsOf, rule1, ruledOf, classOf, dataOf, partOf, spanPlace}
 use Rattle.paper.specs.Look.{listedOf, listedOut, foundOf, showOf, readOf}
-use Rattle.paper.specs.Store.{blankSizes, freePlace, emptySlot, highest, noJob, saveOf, keepOf, clearOf, usedAfter, sizesAfter, lowered, totalOf, writesOf}
+use Rattle.paper.specs.Store.{blankSizes, freePlace, emptySlot, highest, manyOf, noJob, saveOf, keepOf, clearOf, usedAfter, sizesAfter, lowered, totalOf, writesOf}
 use Rattle.paper.specs.Step.{agrees, noWrite, stands, isConfirmed}
+use Rattle.paper.specs.Gaps.{gapsOf}
 use Rattle.paper.specs.Convert.{Carried, bootAs, scanAs, entryAs, wideRun, formChecks, convertOf, convertedOut, joined}
 use Rattle.paper.specs.Lister.{decimal, printed, listText}
 
@@ -76,6 +79,9 @@ pub record Answers : Type 0 where
   pub no-part : spanSays (span.Refused (BadScan 4)) ≡ says 11 (4 ∷ [])
   pub accepted : takenSays taken.Accepted ≡ says 0 []
   pub not-taken : takenSays (taken.Refused NoRoom) ≡ says 13 (0 ∷ [])
+  pub yes : askedSays (Is true) ≡ says 0 (1 ∷ [])
+  pub no : askedSays (Is false) ≡ says 0 (0 ∷ [])
+  pub not-asked : askedSays (asked.Refused (SharedRecord 5)) ≡ says 8 (5 ∷ [])
   pub wrote : stepSays (step.Wrote 7 3) ≡ says 0 (0 ∷ 7 ∷ 3 ∷ [])
   pub saved : stepSays (step.Saved 0 4) ≡ says 0 (1 ∷ 0 ∷ 4 ∷ [])
   pub cleared : stepSays (step.Cleared 0 2) ≡ says 0 (2 ∷ 0 ∷ 2 ∷ [])
@@ -351,12 +357,12 @@ pub record Parts : Type 0 where
 -- a save of scan13 to slot 4 of that file, at its only place, with these numbers
 abbrev pub jobWith : ℕ → ℕ → ℕ → ℕ → ℕ → Job
 jobWith slot size span first written =
-    record { saves = true; slot = slot; size = size; span = span; first = first; written = written; lowers = false; boot = take 32 fileBoot; about = bytes54 }
+    record { saves = true; slot = slot; size = size; span = span; first = first; written = written; lowers = false; old = 0; many = 0; boot = take 32 fileBoot; about = bytes54 }
 
 -- a clear of that slot, which does not lower U or does
 abbrev pub clearsWith : Bool → ℕ → ℕ → List ℕ → Job
 clearsWith lowers slot written boot =
-    record { saves = false; slot = slot; size = 0; span = 2560; first = 0; written = written; lowers = lowers; boot = boot; about = [] }
+    record { saves = false; slot = slot; size = 0; span = 2560; first = 0; written = written; lowers = lowers; old = 0; many = 0; boot = boot; about = [] }
 
 abbrev pub clearWith : ℕ → ℕ → List ℕ → Job
 clearWith slot written boot = clearsWith false slot written boot
@@ -364,7 +370,7 @@ clearWith slot written boot = clearsWith false slot written boot
 -- the same save as if it lowered U
 abbrev pub jobLowers : ℕ → Job
 jobLowers written =
-    record { saves = true; slot = 4; size = 308; span = 2560; first = 5; written = written; lowers = true; boot = take 32 fileBoot; about = bytes54 }
+    record { saves = true; slot = 4; size = 308; span = 2560; first = 5; written = written; lowers = true; old = 0; many = 0; boot = take 32 fileBoot; about = bytes54 }
 
 -- "A step checks 14 first": each cause by itself
 pub record Agrees : Type 0 where
@@ -375,7 +381,7 @@ pub record Agrees : Type 0 where
   pub other-length : agrees file scan13 (jobWith 4 308 2561 5 0) ≡ false
   pub other-boot : agrees file [] (clearWith 4 0 (1 ∷ drop 1 (take 32 fileBoot))) ≡ false
   pub bad-boot : agrees (write file 31 (2 ∷ [])) [] (clearWith 4 0 (take 31 fileBoot ++ (2 ∷ []))) ≡ false
-  pub no-file : agrees [] [] (record { saves = false; slot = 0; size = 0; span = 0; first = 0; written = 0; lowers = false; boot = []; about = [] }) ≡ false
+  pub no-file : agrees [] [] (record { saves = false; slot = 0; size = 0; span = 0; first = 0; written = 0; lowers = false; old = 0; many = 0; boot = []; about = [] }) ≡ false
   pub no-scan : agrees file [] (jobWith 4 0 2560 5 0) ≡ false
   pub slot-0 : agrees file scan13 (jobWith 0 308 2560 5 0) ≡ false
   pub slot-5 : agrees file scan13 (jobWith 5 308 2560 5 0) ≡ false
@@ -392,7 +398,7 @@ pub record Agrees : Type 0 where
 
 -- record 5 is slot 3's: 512 zeros, and an entry of zeros from byte 8 on
 abbrev pub confirming : List ℕ → ℕ → ℕ → Job
-confirming about size first = record { saves = true; slot = 3; size = size; span = 2560; first = first; written = 3; lowers = false; boot = []; about = about }
+confirming about size first = record { saves = true; slot = 3; size = size; span = 2560; first = first; written = 3; lowers = false; old = 0; many = 0; boot = []; about = about }
 
 -- "compares the entry's M bytes and the k records, padding included"
 pub record Stands : Type 0 where
@@ -518,10 +524,10 @@ pub record Conversions : Type 0 where
 -- ---- the counter and record 1
 
 abbrev pub saveJob : Job
-saveJob = record { saves = true; slot = 5; size = 1000; span = 0; first = 40; written = 0; lowers = false; boot = []; about = [] }
+saveJob = record { saves = true; slot = 5; size = 1000; span = 0; first = 40; written = 0; lowers = false; old = 0; many = 0; boot = []; about = [] }
 
 abbrev pub clearJob : ℕ → Job
-clearJob slot = record { saves = false; slot = slot; size = 0; span = 0; first = 0; written = 0; lowers = false; boot = []; about = [] }
+clearJob slot = record { saves = false; slot = slot; size = 0; span = 0; first = 0; written = 0; lowers = false; old = 0; many = 0; boot = []; about = [] }
 
 pub record Renewed : Type 0 where
   -- "D = U = counter = type = 0"
@@ -560,12 +566,53 @@ pub record UsedNumber : Type 0 where
   pub of-a-save : totalOf fileSizes (jobLowers 0) ≡ 3
   pub third-is : getD (writesOf file fileSizes (clearsWith true 3 0 []) []) 2 noWrite ≡ record { at = 0; bytes = bootBytes (record { n = 2; d = 3; l = 512; m = 128; u = 3; counter = 4294967295; kind = 1; version = 1 }); record-no = 1 }
 
+-- 02, 2026-05: the old run. In that file record 3 is slot 2's, record 4 slot 1's, and record 5, of zeros, slot 3's
+
+-- a clear of its empty slot 4, with this old run
+abbrev pub goneWith : ℕ → ℕ → ℕ → Job
+goneWith old many written =
+    record { saves = false; slot = 4; size = 0; span = 2560; first = 0; written = written; lowers = true; old = old; many = many; boot = take 32 fileBoot; about = [] }
+
+pub record OldRun : Type 0 where
+  -- "(0, 0 where the slot held nothing)"
+  pub nothing : manyOf (record { first = 0; last = 0 }) ≡ 0
+  pub one : manyOf (record { first = 4; last = 4 }) ≡ 1
+  pub three : manyOf (record { first = 7; last = 9 }) ≡ 3
+  pub cleared : (clearOf file 1 .job .old ≡ 4) × (clearOf file 1 .job .many ≡ 1)
+  pub refused : (clearOf file 4 .job .old ≡ 0) × (clearOf file 4 .job .many ≡ 0)
+  -- "its writes grow by the run's length": data, record 1, entry, the lowered U and then zeros, "lowest first"
+  pub total : totalOf fileSizes (goneWith 3 2 0) ≡ 5
+  pub first-zeros : getD (writesOf file fileSizes (goneWith 3 2 0) []) 3 noWrite ≡ record { at = 1024; bytes = replicate 512 0; record-no = 3 }
+  pub then-zeros : getD (writesOf file fileSizes (goneWith 3 2 0) []) 4 noWrite ≡ record { at = 1536; bytes = replicate 512 0; record-no = 4 }
+  pub no-more : getD (writesOf file fileSizes (goneWith 3 2 0) []) 5 noWrite ≡ noWrite
+  -- 14 "also where a record of the old run lies outside N+1 to the room"
+  pub all-data : agrees file [] (goneWith 3 3 6) ≡ true
+  pub counts : agrees file [] (goneWith 3 3 7) ≡ false
+  pub in-the-index : agrees file [] (goneWith 2 1 0) ≡ false
+  pub past-the-room : agrees file [] (goneWith 3 4 0) ≡ false
+  pub beyond : agrees file [] (goneWith 18446744073709551615 2 0) ≡ false
+  pub not-looked-at : agrees file [] (goneWith 18446744073709551615 0 0) ≡ true
+  -- "and also requires the zeros, else 15"
+  pub zeros-stand : stands file [] (goneWith 5 1 4) fileSizes ≡ true
+  pub not-zeros : stands file [] (goneWith 4 1 4) fileSizes ≡ false
+  pub not-all : stands file [] (goneWith 4 2 5) fileSizes ≡ false
+
+-- "whether every data record in no listed scan is all zeros": all three are listed, then record 5 is not, then record 3
+pub record Gaps : Type 0 where
+  pub listed : gapsOf file ≡ Is true
+  pub zeros : gapsOf (write file 768 (replicate 8 0)) ≡ Is true
+  pub last-byte : gapsOf (write (write file 768 (replicate 8 0)) 2559 (1 ∷ [])) ≡ Is false
+  pub left : gapsOf (write file 640 (replicate 8 0)) ≡ Is false
+  -- a record past N+D is none
+  pub beyond : gapsOf (file ++ replicate 512 7) ≡ Is true
+  pub refused : gapsOf [] ≡ asked.Refused TooShort
+
 -- ---- zeros
 
 pub record Zeros : Type 0 where
   -- "writes nothing (record 0)"
   pub write-none : noWrite ≡ record { at = 0; bytes = []; record-no = 0 }
-  pub job : noJob ≡ record { saves = false; slot = 0; size = 0; span = 0; first = 0; written = 0; lowers = false; boot = replicate 32 0; about = replicate 54 0 }
+  pub job : noJob ≡ record { saves = false; slot = 0; size = 0; span = 0; first = 0; written = 0; lowers = false; old = 0; many = 0; boot = replicate 32 0; about = replicate 54 0 }
   pub entry : noEntry ≡ record { first = 0; last = 0; horizontal = 0; vertical = 0; source = replicate 16 0; scan = 0; field4 = 0; field8 = 0; lst = 0; date = 0; mode = pos 0; number = pos 0; position = pos 0; magic = pos 0; kind = Other (ofBits binary32 0) (ofBits binary64 0) }
 
 -- ---- the lister

@@ -6,6 +6,7 @@ pub mod Scan
 pub mod Look
 pub mod Store
 pub mod Step
+pub mod Gaps
 pub mod Convert
 pub mod Numbers
 pub mod Lister

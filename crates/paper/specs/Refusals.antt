@@ -1,5 +1,6 @@
 -- 01, "Refusal numbers": the paper's number and values of every answer.
 use Prim.Native.Nat.{ℕ}
+use mathlib.Core.Bool.{cond}
 use mathlib.Core.List.{List, [], _∷_}
 use lib.Ieee.{Float}
 use Rattle.paper.specs.declared.refusal.Refusal.{Refusal}
@@ -12,6 +13,8 @@ use Rattle.paper.specs.declared.answer.Span.{Span}
 use Rattle.paper.specs.declared.answer.Span.the-variants as span
 use Rattle.paper.specs.declared.answer.Taken.{Taken}
 use Rattle.paper.specs.declared.answer.Taken.the-variants as taken
+use Rattle.paper.specs.declared.answer.Asked.{Asked}
+use Rattle.paper.specs.declared.answer.Asked.the-variants as asked
 use Rattle.paper.specs.declared.entry.Kind.{Kind}
 use Rattle.paper.specs.declared.entry.Kind.the-variants.{Spectral, Continuum, Other}
 use Rattle.paper.specs.declared.job.Step.{Step}
@@ -87,6 +90,11 @@ spanSays (span.Refused r) = refuses r
 abbrev pub takenSays : Taken → Says
 takenSays taken.Accepted = accepts []
 takenSays (taken.Refused r) = refuses r
+
+-- a question says 1 for yes and 0 for no
+abbrev pub askedSays : Asked → Says
+askedSays (asked.Is so) = accepts (cond so 1 0 ∷ [])
+askedSays (asked.Refused r) = refuses r
 
 -- a step says what was done (0 wrote a record, 1 Saved, 2 Cleared), the record and the count so far
 abbrev pub stepSays : Step → Says

@@ -9,6 +9,7 @@ use Rattle.lent.specs.Lists.{all}
 use Rattle.lent.specs.Checks.{Fired, clear, fires, fired}
 use Rattle.lent.specs.Part.{part}
 use Rattle.lent.specs.Same.{same}
+use Rattle.lent.specs.Write.{zeros}
 use Rattle.paper.specs.declared.sizes.Sizes.{Sizes}
 use Rattle.paper.specs.declared.refusal.Refusal.{Refusal}
 use Rattle.paper.specs.declared.refusal.Refusal.the-variants.{Disagrees, Differs}
@@ -40,6 +41,8 @@ agreeTests f scan j z =
     ∷ cond (j .saves) (ltb (z .n) (j .first)) true
     ∷ cond (j .saves) (leb (j .first + countOf z j) (roomOf z (length f) + 1)) true
     ∷ leb (j .written) (totalOf z j)
+    ∷ cond (ltb 0 (j .many)) (ltb (z .n) (j .old)) true
+    ∷ cond (ltb 0 (j .many)) (leb (j .old + j .many) (roomOf z (length f) + 1)) true
     ∷ []
 
 unfoldable pub agrees : List ℕ → List ℕ → Job → Bool
@@ -64,7 +67,19 @@ stepFile f scan j = cond (agrees f scan j) (perform f (writeAt f (sizesOf f) sca
 -- the job at another place of its list, expecting these 32 bytes
 abbrev pub placed : Job → ℕ → List ℕ → Job
 placed j w b =
-    record { saves = j .saves; slot = j .slot; size = j .size; span = j .span; first = j .first; written = w; lowers = j .lowers; boot = b; about = j .about }
+    record {
+      saves = j .saves;
+      slot = j .slot;
+      size = j .size;
+      span = j .span;
+      first = j .first;
+      written = w;
+      lowers = j .lowers;
+      old = j .old;
+      many = j .many;
+      boot = b;
+      about = j .about;
+    }
 
 -- the job one write on; where this write was record 1's, it then expects the bootstrap that it wrote
 abbrev pub moved : Write → Job → Job
@@ -73,11 +88,16 @@ moved w j = placed j (j .written + 1) (cond (eqb (w .record-no) 1) (w .bytes) (j
 unfoldable pub stepJob : List ℕ → List ℕ → Job → Job
 stepJob f scan j = cond (agrees f scan j) (cond (hasLeft (sizesOf f) j) (moved (writeAt f (sizesOf f) scan j) j) j) j
 
--- "compares the entry's M bytes and the k records, padding included, with what the job and the scan give"
+-- the bytes of k records from r on
+abbrev pub rowsAt : List ℕ → Sizes → ℕ → ℕ → List ℕ
+rowsAt f z r k = part (startOf z r) (startOf z r + k * z .l) f
+
+-- "compares the entry's M bytes and the k records, padding included, with what the job and the scan give"; 02, 2026-05: "and also requires the zeros"
 abbrev pub standTests : List ℕ → List ℕ → Job → Sizes → List Bool
 standTests f scan j z =
     same (entryAt f z (j .slot)) (entryAfter z j)
-    ∷ same (part (startOf z (j .first)) (startOf z (j .first) + countOf z j * z .l) f) (paddedOf z j scan)
+    ∷ same (rowsAt f z (j .first) (countOf z j)) (paddedOf z j scan)
+    ∷ same (rowsAt f z (j .old) (j .many)) (zeros (j .many * z .l))
     ∷ []
 
 unfoldable pub stands : List ℕ → List ℕ → Job → Sizes → Bool
@@ -125,8 +145,11 @@ pub record Agreeing (f scan : List ℕ) (j : Job) (z : Sizes) : Type 0 where
   pub past : j .saves ≡ true → z .n < j .first
   pub within : j .saves ≡ true → j .first + countOf z j ≤ roomOf z (length f) + 1
   pub left : j .written ≤ totalOf z j
+  pub old-past : 0 < j .many → z .n < j .old
+  pub old-within : 0 < j .many → j .old + j .many ≤ roomOf z (length f) + 1
 
 -- what `stands f scan j z ≡ true` says
 pub record Standing (f scan : List ℕ) (j : Job) (z : Sizes) : Type 0 where
   pub entry : entryAt f z (j .slot) ≡ entryAfter z j
-  pub rows : part (startOf z (j .first)) (startOf z (j .first) + countOf z j * z .l) f ≡ paddedOf z j scan
+  pub rows : rowsAt f z (j .first) (countOf z j) ≡ paddedOf z j scan
+  pub gone : rowsAt f z (j .old) (j .many) ≡ zeros (j .many * z .l)

@@ -79,9 +79,26 @@ emptySlot z run = least (λ s. empty (run s)) (capacityOf z)
 abbrev pub highest : List ℕ → Sizes → ℕ
 highest f z = greatest (λ s. not (empty (runOf f z s))) (capacityOf z)
 
+-- 02, 2026-05: how many records a run has: those up to its last, less those before its first
+abbrev pub manyOf : Run → ℕ
+manyOf r = r .last - (r .first - 1)
+
 -- "a job of zeros"
 abbrev pub noJob : Job
-noJob = record { saves = false; slot = 0; size = 0; span = 0; first = 0; written = 0; lowers = false; boot = replicate 32 0; about = replicate 54 0 }
+noJob =
+    record {
+      saves = false;
+      slot = 0;
+      size = 0;
+      span = 0;
+      first = 0;
+      written = 0;
+      lowers = false;
+      old = 0;
+      many = 0;
+      boot = replicate 32 0;
+      about = replicate 54 0;
+    }
 
 abbrev pub refused : Refusal → Begun
 refused r = record { answer = Refused r; job = noJob }
@@ -93,10 +110,26 @@ accepted j = record { answer = Accepted; job = j }
 abbrev pub placeFor : List ℕ → ℕ → ℕ
 placeFor f size = freePlace (sizesOf f) (length f) (runOf f (sizesOf f)) (recordsFor (sizesOf f) size)
 
+-- 02, 2026-05: "A job carries that old run", of "the scan replaced or cleared": what the slot holds as it is begun
+abbrev pub oldRun : List ℕ → ℕ → Run
+oldRun f slot = runOf f (sizesOf f) slot
+
 -- a save's job, at the place r
 abbrev pub savesAt : List ℕ → ℕ → List ℕ → List ℕ → ℕ → Job
 savesAt f slot scan about r =
-    record { saves = true; slot = slot; size = length scan; span = length f; first = r; written = 0; lowers = false; boot = take 32 f; about = about }
+    record {
+      saves = true;
+      slot = slot;
+      size = length scan;
+      span = length f;
+      first = r;
+      written = 0;
+      lowers = false;
+      old = oldRun f slot .first;
+      many = manyOf (oldRun f slot);
+      boot = take 32 f;
+      about = about;
+    }
 
 abbrev pub saveJob : List ℕ → ℕ → List ℕ → List ℕ → Job
 saveJob f slot scan about = savesAt f slot scan about (placeFor f (length scan))
@@ -112,6 +145,8 @@ clearJob f slot =
       first = 0;
       written = 0;
       lowers = eqb slot (highest f (sizesOf f));
+      old = oldRun f slot .first;
+      many = manyOf (oldRun f slot);
       boot = take 32 f;
       about = replicate 54 0;
     }
@@ -211,10 +246,17 @@ lowered f z = renewed z (z .d) (highest f z) (z .counter)
 abbrev pub lowerWrites : List ℕ → Sizes → Job → List Write
 lowerWrites f z j = cond (lowersOf j) (sizesWrite (lowered f z) ∷ []) []
 
--- how many writes: from the job and the sizes that no write changes, never from the file as it stands
-abbrev pub totalOf : Sizes → Job → ℕ
-totalOf z j = countOf z j + 2 + cond (lowersOf j) 1 0
+-- 02, 2026-05: "zeros over each record of the scan replaced or cleared, lowest first": data records of zeros
+abbrev pub zeroWrites : Sizes → Job → List Write
+zeroWrites z j = dataFrom z (j .old) (j .many) (zeros (j .many * z .l))
 
--- "the k data records .., then record 1 .., then the slot's entry", and then the lowered U; each as the file f with the sizes z has it when its turn comes
+-- how many writes make the change, and how many there are with the zeros: from the job and the sizes that no write changes, never from the file as it stands
+abbrev pub changeOf : Sizes → Job → ℕ
+changeOf z j = countOf z j + 2 + cond (lowersOf j) 1 0
+
+abbrev pub totalOf : Sizes → Job → ℕ
+totalOf z j = changeOf z j + j .many
+
+-- "the k data records .., then record 1 .., then the slot's entry", then "the lowered U if any", and then zeros; each as the file f with the sizes z has it when its turn comes
 unfoldable pub writesOf : List ℕ → Sizes → Job → List ℕ → List Write
-writesOf f z j scan = dataWrites z j scan ++ (bootWrite f z j ∷ entryWrite z j ∷ lowerWrites f z j)
+writesOf f z j scan = dataWrites z j scan ++ (bootWrite f z j ∷ entryWrite z j ∷ (lowerWrites f z j ++ zeroWrites z j))

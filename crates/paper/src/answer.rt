@@ -31,3 +31,9 @@ pub enum Taken {
     Accepted,
     Refused(Refusal),
 }
+
+// A question that has a yes or a no.
+pub enum Asked {
+    Is(bool),
+    Refused(Refusal),
+}

@@ -14,6 +14,9 @@ pub struct Job {
     // The first data record, and the count of records written so far.
     pub first: usize,
     pub written: usize,
+    // The records of the scan that is replaced or cleared, to be written with zeros: its first, and how many they are. Where there are none the first is not looked at.
+    pub old: usize,
+    pub many: usize,
     // The first 32 bytes of the file as the job was begun on them or last wrote them.
     pub boot: [u8; 32],
     // The entry's bytes 8 to 61.

@@ -16,10 +16,11 @@ use Rattle.paper.specs.Scan.{classesOf, startsOf, rule1, rule2, rule3, rule4, r
 use Rattle.paper.specs.Look.{readOf}
 use Rattle.paper.specs.Store.{blankFile, blankOf, freeAt, freePlace, saveOf, clearOf, dataFrom, writesOf}
 use Rattle.paper.specs.Step.{agrees, stepFile, stepJob, stands, stepAnswer}
+use Rattle.paper.specs.Gaps.{leftAt, gapsZero, gapsOf}
 use Rattle.paper.specs.Lister.{digits, linesText, listText}
 use Rattle.paper_run.specs.Scans.{preamble, double, scanOf}
 use Rattle.paper_run.specs.Files.{file0, file1, file2, file3, file4, file5, broken}
-use Rattle.paper_run.specs.Run.{Run, Lowered, Kept}
+use Rattle.paper_run.specs.Run.{Run, Lowered, Zeroed, Kept}
 
 pub kept : Kept
 unfolding number value int16 table every exactly wholeFloat wholeOf ofBits lengthOf isWhole sizeOf classesOf startsOf rule1 rule2 rule3 rule4 rule5 rule6 rising ruledOf preamble double scanOf
@@ -56,4 +57,20 @@ lowered =
       still-9 = refl;
       cut = refl;
       mended = refl;
+    }
+
+pub zeroed : Zeroed
+unfolding number value digit bytes numbers int16 table every least greatest write zeros pad same exactly wholeFloat wholeOf ofBits lengthOf isWhole sizeOf wordAt counterOf typeOf bootBytes shaped inRange empty inData badAt aboveAt shares sharer sharedAt openOf versionOne entryBytes classesOf startsOf rule1 rule2 rule3 rule4 rule5 rule6 rising ruledOf blankFile freeAt freePlace saveOf clearOf dataFrom writesOf agrees stepFile stepJob stands stepAnswer leftAt gapsZero gapsOf preamble double scanOf file0 file1 file2 file3
+zeroed =
+    record {
+      none-yet = refl;
+      all-listed = refl;
+      zeros = refl;
+      cut-before = refl;
+      cut-after = refl;
+      cut-between = refl;
+      cut-at-the-end = refl;
+      cut-clear = refl;
+      not-mended = refl;
+      stepped-again = refl;
     }

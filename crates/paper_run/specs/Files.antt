@@ -9,7 +9,7 @@ use Rattle.paper.specs.Store.{blankFile, saveOf, clearOf}
 use Rattle.paper.specs.Step.{stepAnswer, stepFile, stepJob}
 use Rattle.paper_run.specs.Scans.{scan1, scan2, scan3, scan4}
 
--- n steps of a job: the answers, and the file after them
+-- n steps of a job: the answers, and the file and the job after them
 abbrev pub answers : ℕ → List ℕ → List ℕ → Job → List Step
 answers zero f scan j = []
 answers (suc n) f scan j = stepAnswer f scan j ∷ answers n (stepFile f scan j) scan (stepJob f scan j)
@@ -17,6 +17,10 @@ answers (suc n) f scan j = stepAnswer f scan j ∷ answers n (stepFile f scan j)
 abbrev pub after : ℕ → List ℕ → List ℕ → Job → List ℕ
 after zero f scan j = f
 after (suc n) f scan j = after n (stepFile f scan j) scan (stepJob f scan j)
+
+abbrev pub jobAfter : ℕ → List ℕ → List ℕ → Job → Job
+jobAfter zero f scan j = j
+jobAfter (suc n) f scan j = jobAfter n (stepFile f scan j) scan (stepJob f scan j)
 
 -- the entry's bytes 8 to 61
 abbrev pub about : List ℕ
@@ -54,7 +58,7 @@ file2 = saved 4 file1 9 scan2
 
 -- "Save 1,000 bytes to slot 1 again"
 unfoldable pub file3 : List ℕ
-file3 = saved 5 file2 1 scan3
+file3 = saved 7 file2 1 scan3
 
 -- "Next, 1,024 bytes to slot 2"
 unfoldable pub file4 : List ℕ
@@ -62,7 +66,7 @@ file4 = saved 5 file3 2 scan4
 
 -- file 3 with slot 9, its highest, cleared
 unfoldable pub file5 : List ℕ
-file5 = cleared 4 file3 9
+file5 = cleared 5 file3 9
 
 -- file 0 with U = 3 and an entry for slot 3 that names record 1
 unfoldable pub broken : List ℕ

@@ -1,22 +1,26 @@
 -- 01, "Numbers to hold us to": what the paper says of its run, line by line.
 use Prim.Native.Nat.{ℕ}
 use mathlib.Core.Path.{_≡_}
-use mathlib.Core.Bool.{true}
+use mathlib.Core.Bool.{true, false}
 use mathlib.Core.List.{List, [], _∷_}
 use lib.ListN.{length}
 use Rattle.paper.specs.declared.answer.Ruled.the-variants.{Keeps}
 use Rattle.paper.specs.declared.answer.Opened.the-variants.{Opens}
 use Rattle.paper.specs.declared.answer.Taken.the-variants.{Accepted}
-use Rattle.paper.specs.declared.job.Step.the-variants.{Wrote, Saved, Cleared}
+use Rattle.paper.specs.declared.answer.Asked.the-variants.{Is}
+use Rattle.paper.specs.declared.refusal.Refusal.the-variants.{Differs}
+use Rattle.paper.specs.declared.job.Step.the-variants.{Wrote, Saved, Cleared, Refused}
 use Rattle.paper.specs.Refusals.{takenSays}
 use Rattle.paper.specs.Sizes.{sizesOf, capacityOf, roomOf}
 use Rattle.paper.specs.Index.{openOf}
 use Rattle.paper.specs.Scan.{ruledOf, partOf}
 use Rattle.paper.specs.Look.{readOf}
 use Rattle.paper.specs.Store.{blankOf, saveOf}
+use Rattle.paper.specs.Step.{stepAnswer}
+use Rattle.paper.specs.Gaps.{gapsOf}
 use Rattle.paper.specs.Lister.{listText}
 use Rattle.paper_run.specs.Scans.{scan1, scan2, scan3, scan4, scan5}
-use Rattle.paper_run.specs.Files.{saving, saved, clearing, cleared, about, lent, file0, file1, file2, file3, file4, file5, broken}
+use Rattle.paper_run.specs.Files.{jobAfter, saving, saved, clearing, cleared, about, lent, file0, file1, file2, file3, file4, file5, broken}
 
 -- "slots 16 used 9 scans 2", "1 7 8" and "9 6 6", each with its newline
 abbrev pub threeLines : List ℕ
@@ -41,8 +45,8 @@ pub record Run : Type 0 where
   pub first-save : saving 5 file0 1 scan1 ≡ Wrote 4 1 ∷ Wrote 5 2 ∷ Wrote 1 3 ∷ Wrote 2 4 ∷ Saved 0 4 ∷ []
   -- "records 6, 1, 3"
   pub second-save : saving 4 file1 9 scan2 ≡ Wrote 6 1 ∷ Wrote 1 2 ∷ Wrote 3 3 ∷ Saved 0 3 ∷ []
-  -- "7, 8, 1, 2"
-  pub third-save : saving 5 file2 1 scan3 ≡ Wrote 7 1 ∷ Wrote 8 2 ∷ Wrote 1 3 ∷ Wrote 2 4 ∷ Saved 0 4 ∷ []
+  -- "7, 8, 1, 2"; 02, 2026-05: "the third save then ends with 4 and 5"
+  pub third-save : saving 7 file2 1 scan3 ≡ Wrote 7 1 ∷ Wrote 8 2 ∷ Wrote 1 3 ∷ Wrote 2 4 ∷ Wrote 4 5 ∷ Wrote 5 6 ∷ Saved 0 6 ∷ []
   -- "The lister then prints exactly"
   pub text : listText file3 ≡ threeLines
   -- "A file refused prints one line"
@@ -58,19 +62,36 @@ pub record Run : Type 0 where
 
 -- 02, 2026-04, on the file that the lister printed: scans in slots 1 and 9, U 9, and a counter of 3
 pub record Lowered : Type 0 where
-  -- "A clear of that highest slot gets a third write .. Such a clear is confirmed at step 4"
-  pub highest-clear : clearing 4 file3 9 ≡ Wrote 1 1 ∷ Wrote 3 2 ∷ Wrote 1 3 ∷ Cleared 0 3 ∷ []
+  -- "A clear of that highest slot gets a third write", and then one for the record that it clears
+  pub highest-clear : clearing 5 file3 9 ≡ Wrote 1 1 ∷ Wrote 3 2 ∷ Wrote 1 3 ∷ Wrote 6 4 ∷ Cleared 0 4 ∷ []
   -- "U lowered to what is left .. its counter isn't raised twice"
   pub lowered : sizesOf file5 ≡ record { n = 3; d = 5; l = 512; m = 64; u = 1; counter = 4; kind = 0; version = 1 }
   -- "or 0"
-  pub last-clear : clearing 4 file5 1 ≡ Wrote 1 1 ∷ Wrote 2 2 ∷ Wrote 1 3 ∷ Cleared 0 3 ∷ []
-  pub none-left : sizesOf (cleared 4 file5 1) ≡ record { n = 3; d = 5; l = 512; m = 64; u = 0; counter = 5; kind = 0; version = 1 }
-  -- any other clear: two writes, confirmed at step 3
-  pub other-clear : clearing 3 file3 1 ≡ Wrote 1 1 ∷ Wrote 2 2 ∷ Cleared 0 2 ∷ []
-  pub still-9 : sizesOf (cleared 3 file3 1) .u ≡ 9
+  pub last-clear : clearing 6 file5 1 ≡ Wrote 1 1 ∷ Wrote 2 2 ∷ Wrote 1 3 ∷ Wrote 7 4 ∷ Wrote 8 5 ∷ Cleared 0 5 ∷ []
+  pub none-left : sizesOf (cleared 6 file5 1) ≡ record { n = 3; d = 5; l = 512; m = 64; u = 0; counter = 5; kind = 0; version = 1 }
+  -- any other clear: two writes, and then the zeros
+  pub other-clear : clearing 5 file3 1 ≡ Wrote 1 1 ∷ Wrote 2 2 ∷ Wrote 7 3 ∷ Wrote 8 4 ∷ Cleared 0 4 ∷ []
+  pub still-9 : sizesOf (cleared 5 file3 1) .u ≡ 9
   -- "Open still accepts a U too high, as after a cut": after the index write U is 9 yet, and the next save sets it right
   pub cut : openOf (cleared 2 file3 9) ≡ Opens (record { n = 3; d = 5; l = 512; m = 64; u = 9; counter = 4; kind = 0; version = 1 })
   pub mended : sizesOf (saved 4 (cleared 2 file3 9) 3 scan2) .u ≡ 3
+
+-- 02, 2026-05: the old run and the question of the gaps. The third save takes records 7 and 8 and gives up 4 and 5
+pub record Zeroed : Type 0 where
+  -- "whether every data record in no listed scan is all zeros": no data record yet; then each is listed; then 4 and 5 are zeros
+  pub none-yet : gapsOf file0 ≡ Is true
+  pub all-listed : gapsOf file2 ≡ Is true
+  pub zeros : gapsOf file3 ≡ Is true
+  -- "After a cut some may be left": the new scan's records while its entry is not written, then 4 and 5, then 5 alone
+  pub cut-before : gapsOf (saved 3 file2 1 scan3) ≡ Is false
+  pub cut-after : gapsOf (saved 4 file2 1 scan3) ≡ Is false
+  pub cut-between : gapsOf (saved 5 file2 1 scan3) ≡ Is false
+  pub cut-at-the-end : gapsOf (saved 6 file2 1 scan3) ≡ Is true
+  -- what a cut left no later job zeroes: a clear of slot 1 that is cut before record 5, and then one of slot 9 that is confirmed
+  pub cut-clear : gapsOf (cleared 3 file2 1) ≡ Is false
+  pub not-mended : gapsOf (cleared 5 (cleared 3 file2 1) 9) ≡ Is false
+  -- "A confirmed replacement stepped again once a later save's data stand in its zeroed records gets 15"
+  pub stepped-again : stepAnswer (saved 1 file3 2 scan4) scan3 (jobAfter 7 file2 scan3 (saveOf file2 1 scan3 about .job)) ≡ Refused Differs
 
 -- the scans keep the rules
 pub record Kept : Type 0 where

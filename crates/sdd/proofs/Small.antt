@@ -12,7 +12,7 @@ use Rattle.lent.specs.Lists.{all}
 use Rattle.lent.specs.Checks.{Check, check, Fired, clear, fires, fired, answer, judge}
 use Rattle.lent.proofs.Lists.{lt-or-ge, same-or}
 use Rattle.lent.proofs.Leasts.{least-le}
-use Rattle.lent.proofs.Checks.{clear≢fires, fires-same}
+use Rattle.lent.proofs.Checks.{clear≢fires, fires-same, judge-fires}
 use Rattle.paper.specs.declared.sizes.Sizes.{Sizes}
 use Rattle.paper.specs.declared.sizes.Run.{Run}
 use Rattle.paper.specs.declared.refusal.Refusal.{Refusal}
@@ -25,6 +25,7 @@ use Rattle.paper.specs.declared.answer.Span.the-variants as span
 use Rattle.paper.specs.declared.answer.Ruled.{Ruled}
 use Rattle.paper.specs.declared.answer.Ruled.the-variants.{Keeps, Breaks}
 use Rattle.paper.specs.declared.answer.Taken.the-variants as taken
+use Rattle.paper.specs.declared.answer.Asked.the-variants as asked
 use Rattle.paper.specs.declared.entry.Found.{Found}
 use Rattle.paper.specs.declared.job.Job.{Job}
 use Rattle.paper.specs.declared.job.Begun.{Begun}
@@ -36,11 +37,12 @@ use Rattle.paper.specs.Index.{runOf, shownOf, badAt, aboveAt, sharedAt, indexCh
 use Rattle.paper.specs.Scan.{ruledOf, classAt, classEnd, classIn, ofRuled, classOf, dataOf, startsOf, classesOf}
 use Rattle.paper.specs.Look.{listOf, listChecks, listedOf, heldChecks, slotChecks, otherScan, readChecks, noSlot, foundOf, showOf, readIn, readOf}
 use Rattle.paper.specs.Store.{blankChecks, blankSizes, blankOf, reasonOf, scanChecks, refused, saveOf, keepOf, keepSlot, clearOf}
+use Rattle.paper.specs.Gaps.{gapsOf}
 use Rattle.paper.specs.Convert.{tooSmall, formChecks, convertChecks, convertOf}
 use Rattle.paper.specs.Step.{agrees, hasLeft, wroteOf, confirmed, confirmOf, stands, stepAnswer}
 use Rattle.paper.proofs.Opening.{boot-sound, open-index, open-refused, refused-fires, then-opens, then-refused, change-old, change-look}
 use Rattle.paper.proofs.Reasons.{reason-least}
-use Rattle.sdd.specs.Face.{TakenSmall, SpanSmall, ListedSmall, StepSmall}
+use Rattle.sdd.specs.Face.{TakenSmall, SpanSmall, ListedSmall, AskedSmall, StepSmall}
 
 pub number-small : (r : Refusal) → numberOf r ≤ 19
 number-small TooShort = omega arith
@@ -145,6 +147,10 @@ ruled-small k h (Breaks n) e = omega arith
 pub list-small : (f out : List ℕ) → ListedSmall (listedOf f out)
 unfolding listedOf
 list-small f out = judged ListedSmall listed.Refused (listChecks f out) _ (then-small f (listTail f out) (omega arith, tt)) tt
+
+pub gaps-small : (f : List ℕ) → AskedSmall (gapsOf f)
+unfolding gapsOf openOf
+gaps-small f = judged AskedSmall asked.Refused (openChecks f) _ (λ r e. open-small f r (judge-fires opened.Refused (openChecks f) _ r e)) tt
 
 pub show-small : (f : List ℕ) (s : ℕ) → SpanSmall (showOf f s)
 unfolding showOf

@@ -9,6 +9,7 @@ use Rattle.lent.proofs.Lists.{all-true}
 use borrow.Author.Tests.{leb-true}
 use Rattle.paper.specs.declared.answer.Span.{Span}
 use Rattle.paper.specs.declared.answer.Taken.{Taken}
+use Rattle.paper.specs.declared.answer.Asked.{Asked}
 use Rattle.paper.specs.declared.entry.Found.{Found}
 use Rattle.paper.specs.declared.refusal.Refusal.the-variants.{Disagrees}
 use Rattle.paper.specs.declared.job.Job.{Job}
@@ -16,11 +17,11 @@ use Rattle.paper.specs.declared.job.Begun.{Begun}
 use Rattle.paper.specs.declared.job.Step.{Step}
 use Rattle.paper.specs.declared.job.Step.the-variants as step
 use Rattle.paper.specs.declared.job.Stepped.{Stepped}
-use Rattle.paper.specs.Refusals.{spanSays, takenSays, stepSays}
+use Rattle.paper.specs.Refusals.{spanSays, takenSays, askedSays, stepSays}
 use Rattle.paper.specs.Sizes.{sizesOf}
 use Rattle.paper.specs.Step.{agrees, hasLeft, stepFile, stepJob, stepAnswer}
-use Rattle.paper.proofs.Answers.{span-only, taken-only, step-only}
-use Rattle.sdd.specs.Face.{spanC, foundC, jobC, jobOf, begunC, steppedC, toldOf, beside, flagTests, flagged, stepC, stepFileC, TakenSmall, SpanSmall, StepSmall}
+use Rattle.paper.proofs.Answers.{span-only, taken-only, asked-only, step-only}
+use Rattle.sdd.specs.Face.{askedC, spanC, foundC, jobC, jobOf, begunC, steppedC, toldOf, beside, flagTests, flagged, stepC, stepFileC, TakenSmall, SpanSmall, AskedSmall, StepSmall}
 use Rattle.sdd.specs.declared.face.CJob.{CJob}
 use Rattle.sdd.specs.declared.face.CStepped.{CStepped}
 use Rattle.sdd.specs.declared.jobs.Told.{Told}
@@ -30,6 +31,12 @@ span-small a b e h = subst SpanSmall (sym (span-only a b e)) h
 
 pub span-face : (a b : Span) → spanSays a ≡ spanSays b → spanC a ≡ spanC b
 span-face a b e = ap spanC (span-only a b e)
+
+pub asked-small : (a b : Asked) → askedSays a ≡ askedSays b → AskedSmall b → AskedSmall a
+asked-small a b e h = subst AskedSmall (sym (asked-only a b e)) h
+
+pub asked-face : (a b : Asked) → askedSays a ≡ askedSays b → askedC a ≡ askedC b
+asked-face a b e = ap askedC (asked-only a b e)
 
 pub taken-small : (a b : Taken) → takenSays a ≡ takenSays b → TakenSmall b → TakenSmall a
 taken-small a b e h = subst TakenSmall (sym (taken-only a b e)) h
@@ -65,6 +72,8 @@ changed c saves lowers written boot =
       first = c .first;
       written = written;
       lowers = lowers;
+      old = c .old;
+      many = c .many;
       boot = boot;
       about = c .about;
     }

@@ -14,6 +14,8 @@ use Rattle.paper.specs.declared.answer.Span.{Span}
 use Rattle.paper.specs.declared.answer.Span.the-variants as span
 use Rattle.paper.specs.declared.answer.Taken.{Taken}
 use Rattle.paper.specs.declared.answer.Taken.the-variants as taken
+use Rattle.paper.specs.declared.answer.Asked.{Asked}
+use Rattle.paper.specs.declared.answer.Asked.the-variants as asked
 use Rattle.paper.specs.declared.entry.Found.{Found}
 use Rattle.paper.specs.declared.job.Job.{Job}
 use Rattle.paper.specs.declared.job.Begun.{Begun}
@@ -25,6 +27,7 @@ use Rattle.paper.specs.Step.{stepFile, stepJob, stepAnswer}
 use Rattle.sdd.specs.declared.face.Why.{Why}
 use Rattle.sdd.specs.declared.face.COpened.{COpened}
 use Rattle.sdd.specs.declared.face.CListed.{CListed}
+use Rattle.sdd.specs.declared.face.CAnswer.{CAnswer}
 use Rattle.sdd.specs.declared.face.CSpan.{CSpan}
 use Rattle.sdd.specs.declared.face.CEntry.{CEntry}
 use Rattle.sdd.specs.declared.face.CJob.{CJob}
@@ -65,6 +68,10 @@ abbrev pub listedC : Listed → CListed
 listedC (listed.Scans n) = record { why = none; scans = n }
 listedC (listed.Refused r) = record { why = whyOf r; scans = 0 }
 
+abbrev pub askedC : Asked → CAnswer
+askedC (asked.Is so) = record { why = none; yes = cond so 1 0 }
+askedC (asked.Refused r) = record { why = whyOf r; yes = 0 }
+
 abbrev pub spanC : Span → CSpan
 spanC (span.Part from to) = record { why = none; from = from; to = to }
 spanC (span.Refused r) = record { why = whyOf r; from = 0; to = 0 }
@@ -104,6 +111,8 @@ jobC j =
       first = j .first;
       written = j .written;
       lowers = cond (j .lowers) 1 0;
+      old = j .old;
+      many = j .many;
       boot = j .boot;
       about = j .about;
     }
@@ -118,6 +127,8 @@ jobOf c =
       first = c .first;
       written = c .written;
       lowers = eqb (c .lowers) 1;
+      old = c .old;
+      many = c .many;
       boot = c .boot;
       about = c .about;
     }
@@ -175,3 +186,7 @@ StepSmall (step.Refused r) = valueOf r ≤ 4096
 abbrev pub ListedSmall : Listed → Type 0
 ListedSmall (listed.Scans n) = Unit
 ListedSmall (listed.Refused r) = valueOf r ≤ 4096
+
+abbrev pub AskedSmall : Asked → Type 0
+AskedSmall (asked.Is so) = Unit
+AskedSmall (asked.Refused r) = valueOf r ≤ 4096

@@ -30,6 +30,12 @@ pub struct CListed {
 }
 
 #[repr(C)]
+pub struct CAnswer {
+    pub why: Why,
+    pub yes: u64,
+}
+
+#[repr(C)]
 pub struct CSpan {
     pub why: Why,
     pub from: u64,
@@ -67,6 +73,8 @@ pub struct CJob {
     pub first: u64,
     pub written: u64,
     pub lowers: u64,
+    pub old: u64,
+    pub many: u64,
     pub boot: [u8; 32],
     pub about: [u8; 54],
 }

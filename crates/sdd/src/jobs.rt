@@ -24,7 +24,8 @@ pub extern "C" fn sdd_blank(file: &mut [u8], n: u64, l: u64, m: u64) -> Why
     taken(t)
 }
 
-fn flag(is: bool) -> u64
+// 1 for yes.
+pub fn flag(is: bool) -> u64
     ensures { λ r. ⌜ r ≡ cond is 1 0 ⌝ }
 {
     if is { 1 } else { 0 }
@@ -44,6 +45,8 @@ fn numbers(j: Job) -> CJob
         first: j.first as u64,
         written: j.written as u64,
         lowers: flag(j.lowers),
+        old: j.old as u64,
+        many: j.many as u64,
         boot,
         about,
     }
@@ -63,6 +66,8 @@ fn job(c: CJob) -> Job
         first: c.first as usize,
         written: c.written as usize,
         lowers: c.lowers == 1,
+        old: c.old as usize,
+        many: c.many as usize,
         boot,
         about,
     }

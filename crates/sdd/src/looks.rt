@@ -1,18 +1,22 @@
-//! The calls that look: open, list, entry, show, read, class and data.
+//! The calls that look: open, the question of the gaps, list, entry, show, read, class and data.
 ghost use mathlib.Core.Path.{_≡_};
 ghost use lib.ListN.{length};
 ghost use Rattle.paper.specs.Index.{openOf};
 ghost use Rattle.paper.specs.Look.{listedOf, listedOut, foundOf, showOf, readOf};
+ghost use Rattle.paper.specs.Gaps.{gapsOf};
 ghost use Rattle.paper.specs.Scan.{classOf, dataOf};
-ghost use Rattle.sdd.specs.Face.{openedC, listedC, spanC, foundC, SpanSmall};
+ghost use Rattle.sdd.specs.Face.{openedC, listedC, askedC, spanC, foundC, SpanSmall, AskedSmall};
+use super::face::CAnswer;
 use super::face::CEntry;
 use super::face::CListed;
 use super::face::COpened;
 use super::face::CSpan;
+use super::jobs::flag;
 use super::kinds;
 use super::whys::accepted;
 use super::whys::taken;
 use super::whys::why;
+use paper::answer::Asked;
 use paper::answer::Listed;
 use paper::answer::Opened;
 use paper::answer::Span;
@@ -50,6 +54,30 @@ pub extern "C" fn sdd_open(file: &[u8]) -> COpened
             version: 0,
         },
     }
+}
+
+// A question's answer, in numbers.
+fn answered(a: Asked) -> CAnswer
+    requires { ⌜ AskedSmall a ⌝ }
+    ensures { λ r. ⌜ r ≡ askedC a ⌝ }
+{
+    match a {
+        Asked::Is(yes) => CAnswer {
+            why: accepted(),
+            yes: flag(yes),
+        },
+        Asked::Refused(r) => CAnswer {
+            why: why(r),
+            yes: 0,
+        },
+    }
+}
+
+#[no_mangle]
+pub extern "C" fn sdd_gaps_zero(file: &[u8]) -> CAnswer
+    ensures { λ r. ⌜ r ≡ askedC (gapsOf (now (file .entry))) ⌝ }
+{
+    answered(gaps::gaps_zero(file))
 }
 
 #[no_mangle]

@@ -5,7 +5,7 @@ use writes::count;
 ghost use mathlib.Core.Path.{_≡_};
 ghost use Rattle.paper.specs.Sizes.{sizesOf, Shaped};
 ghost use Rattle.paper.specs.Step.{agrees};
-ghost use Rattle.steps.specs.Tests.{sameFile, bootHolds, hasSlot, saveFits, recordsFit};
+ghost use Rattle.steps.specs.Tests.{sameFile, bootHolds, hasSlot, saveFits, recordsFit, oldFits, runsFit};
 
 // The lengths of scan and file, and the first 32 bytes, are the job's.
 fn same_file(file: &[u8], scan: &[u8], j: Job) -> bool
@@ -89,6 +89,38 @@ fn records_fit(z: Sizes, len: usize, j: Job) -> bool
     true
 }
 
+// The old run, where it has records, lies within N+1 to the room, which bounds their number before it is added to anything.
+fn old_fits(z: Sizes, len: usize, j: Job) -> bool
+    requires { ⌜ Shaped z ⌝ }
+    ensures { λ r. ⌜ r ≡ oldFits z len j ⌝ }
+{
+    if j.many == 0 {
+        return true;
+    }
+    if j.old <= z.n {
+        return false;
+    }
+    let room = z.room(len);
+    if room < j.many {
+        return false;
+    }
+    if room + 1 - j.many < j.old {
+        return false;
+    }
+    true
+}
+
+// The new run and the old one.
+fn runs_fit(z: Sizes, len: usize, j: Job) -> bool
+    requires { ⌜ Shaped z ⌝ }
+    ensures { λ r. ⌜ r ≡ runsFit z len j ⌝ }
+{
+    if !records_fit(z, len, j) {
+        return false;
+    }
+    old_fits(z, len, j)
+}
+
 // All of it; z is what the file's bootstrap says.
 pub fn agree(file: &[u8], scan: &[u8], z: Sizes, j: Job) -> bool
     requires { ⌜ z ≡ sizesOf (now file) ⌝ }
@@ -103,7 +135,7 @@ pub fn agree(file: &[u8], scan: &[u8], z: Sizes, j: Job) -> bool
     if !has_slot(z, j.slot) {
         return false;
     }
-    if !records_fit(z, file.len(), j) {
+    if !runs_fit(z, file.len(), j) {
         return false;
     }
     let k = count::records(z, j);

@@ -1,4 +1,4 @@
-//! The step after the last write: the file judged, and the entry and the records compared.
+//! The step after the last write: the file judged, the entry and the records compared, and the old run looked at.
 use paper::answer::Opened;
 use paper::job::Job;
 use paper::job::Step;
@@ -11,12 +11,13 @@ ghost use mathlib.Core.Bool.{true};
 ghost use Rattle.paper.specs.Index.{openOf};
 ghost use Rattle.paper.specs.Step.{agrees, stands, confirmed, confirmOf};
 ghost use Rattle.writes.specs.Inside.{Homed};
+ghost use Rattle.steps.specs.Tests.{givenStands, oldGone, OldIn};
 ghost use Rattle.steps.specs.Answers.{handedOn};
 
 // The entry and the records are as the job and the scan give them.
-fn stands(file: &[u8], scan: &[u8], z: Sizes, j: Job) -> bool
+fn given_stands(file: &[u8], scan: &[u8], z: Sizes, j: Job) -> bool
     requires { ⌜ Homed (now file) z j ⌝ }
-    ensures { λ r. ⌜ r ≡ stands (now (file .entry)) (now (scan .entry)) j z ⌝ }
+    ensures { λ r. ⌜ r ≡ givenStands (now (file .entry)) (now (scan .entry)) j z ⌝ }
 {
     if !entry::entry_stands(file, z, j) {
         return false;
@@ -28,6 +29,31 @@ fn stands(file: &[u8], scan: &[u8], z: Sizes, j: Job) -> bool
         return lent::compare::same_padded(p, n, scan);
     }
     true
+}
+
+// Every record of the old run is zeros; where it has none its place is not looked at.
+fn old_gone(file: &[u8], z: Sizes, j: Job) -> bool
+    requires { ⌜ OldIn (now file) z j ⌝ }
+    ensures { λ r. ⌜ r ≡ oldGone (now (file .entry)) j z ⌝ }
+{
+    let many = j.many;
+    if many == 0 {
+        return true;
+    }
+    let from = (j.old - 1) * z.l;
+    let p = lent::part::part(file, from, from + many * z.l);
+    lent::compare::all_zero(p)
+}
+
+// All that the job was to leave.
+fn stands(file: &[u8], scan: &[u8], z: Sizes, j: Job) -> bool
+    requires { ⌜ Homed (now file) z j × OldIn (now file) z j ⌝ }
+    ensures { λ r. ⌜ r ≡ stands (now (file .entry)) (now (scan .entry)) j z ⌝ }
+{
+    if !given_stands(file, scan, z, j) {
+        return false;
+    }
+    old_gone(file, z, j)
 }
 
 // A refusal of the file's, handed on. (A file that opens is not.)

@@ -13,10 +13,10 @@ ghost use lib.ListN.{take};
 ghost use Rattle.lent.specs.Write.{write};
 ghost use Rattle.paper.specs.Sizes.{bootBytes};
 ghost use Rattle.paper.specs.Index.{Booted};
-ghost use Rattle.paper.specs.Store.{sizesAfter, lowered};
+ghost use Rattle.paper.specs.Store.{perform, sizesAfter, lowered};
 ghost use Rattle.paper.specs.Step.{agrees, stepFile, steppedOf};
 ghost use Rattle.writes.specs.Inside.{Homed, wroteOne};
-ghost use Rattle.steps.specs.Answers.{Left, disagreed};
+ghost use Rattle.steps.specs.Answers.{Left, Late, lateWrite, disagreed};
 
 pub mod agree;
 pub mod confirm;
@@ -51,6 +51,20 @@ fn used_next(file: &mut [u8], z: Sizes) -> usize
     write::write_used(file, z, u)
 }
 
+// What follows the entry: record 1 again where U is lowered, then zeros over the old run, lowest first.
+fn late_next(file: &mut [u8], z: Sizes, j: Job, k: usize) -> usize
+    requires { ⌜ Booted (now file) z ⌝ }
+    requires { ⌜ Late (now file) z j k ⌝ }
+    ensures { λ r. ⌜ r ≡ lateWrite (now (file .entry)) z j .record-no ⌝ }
+    ensures { λ _. ⌜ now (file .exit) ≡ perform (now (file .entry)) (lateWrite (now (file .entry)) z j) ⌝ }
+{
+    let c = count::change(j, k);
+    if j.written < c {
+        return used_next(file, z);
+    }
+    write::write_zeros(file, z, j.old + (j.written - c))
+}
+
 // The write at the job's place in its list, of which the first k are the data records. It answers the record that it wrote.
 fn write_next(file: &mut [u8], scan: &[u8], z: Sizes, j: Job, k: usize) -> usize
     requires { ⌜ Booted (now file) z ⌝ }
@@ -68,7 +82,7 @@ fn write_next(file: &mut [u8], scan: &[u8], z: Sizes, j: Job, k: usize) -> usize
     if j.written == k + 1 {
         return write::write_entry(file, z, j);
     }
-    used_next(file, z)
+    late_next(file, z, j, k)
 }
 
 // One write, or past the last the confirmation. A step that writes judges no index. The bootstrap that the job then expects

@@ -7,17 +7,19 @@ use native.Mathlib.Omega.{arith}
 use borrow.Author.Tests.{leb-true}
 use lib.Dec.{eqb}
 use lib.ListN.{length}
+use Rattle.lent.specs.Least.{Lowest}
 use Rattle.lent.proofs.Lists.{all-true}
+use Rattle.lent.proofs.Leasts.{lowest-least}
 use Rattle.paper.specs.declared.sizes.Sizes.{Sizes}
 use Rattle.paper.specs.declared.sizes.Run.{Run}
 use Rattle.paper.specs.declared.answer.Opened.{Opened}
 use Rattle.paper.specs.declared.answer.Opened.the-variants.{Opens}
 use Rattle.paper.specs.Sizes.{sizesOf, capacityOf, Shaped}
 use Rattle.paper.specs.Index.{runOf, empty, changeBootOf, changeOf}
-use Rattle.paper.specs.Store.{recordsFor, freePlace, emptySlot, highest}
+use Rattle.paper.specs.Store.{recordsFor, freePlace, emptySlot, highest, oldRun}
 use Rattle.paper.proofs.Opening.{full-facts, change-sound, change-index, index-same}
 use Rattle.paper.proofs.Used.{full-highest}
-use Rattle.entries.specs.Row.{rowRun, InFile, Bare}
+use Rattle.entries.specs.Row.{rowRun, InFile, Stated, Bare}
 use Rattle.index.specs.Judging.{Looked}
 use Rattle.room.specs.Passing.{Sought, Hints, Vacant}
 use Rattle.room.proofs.Freeing as room
@@ -43,6 +45,10 @@ unfolding hasSlot
 has-slot f {z} o slot there =
     let t = all-true (slotTests z slot) there in
     record { booted = change-sound f o .booted; low = leb-true 1 slot (t .0); high = leb-true slot (capacityOf z) (t .1 .0) }
+
+-- its run is the old one, at the sizes that the file opens with
+pub old-there : (f : List ℕ) {z : Sizes} → changeOf f ≡ Opens z → (slot : ℕ) {a : Run} → Stated f z slot a → a ≡ oldRun f slot
+old-there f o slot h = h .is ∙ ap (λ (y : Sizes). runOf f y slot) (sym (change-sound f o .booted .reads))
 
 -- and one that has a scan
 pub clearing : (f : List ℕ) (slot : ℕ) {z : Sizes} → changeOf f ≡ Opens z → hasSlot z slot ≡ true → (a : Run) → a ≡ runOf f z slot → (b : Bool) → b ≡ empty a → b ≡ false
@@ -76,3 +82,11 @@ module _ (f : List ℕ) (z : Sizes) (row ws : List ℕ) (h : Rowing f z row ws) 
 
   pub empty-there : (slot : ℕ) → Vacant row z slot → slot ≡ emptySlot z (runOf f z)
   empty-there slot v = room.empty-row f z row (h .looked .runs) (change-sound f (h .opens)) slot v
+
+  -- the lowest empty slot is one of the index
+  pub kept-there : (slot : ℕ) → Vacant row z slot → (slot ≡ 0 → ⊥) → InFile f z slot
+  unfolding emptySlot
+  kept-there slot v ne =
+      let e = empty-there slot v in
+      let l : Lowest (λ s. empty (runOf f z s)) (capacityOf z) slot = lowest-least (sym e) (omega arith) in
+      record { booted = change-sound f (h .opens) .booted; low = l .low; high = l .high }

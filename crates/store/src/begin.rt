@@ -5,11 +5,13 @@ use paper::answer::Taken;
 use paper::job::Begun;
 use paper::job::Job;
 use paper::refusal::Refusal;
+use paper::sizes::Run;
 use paper::sizes::Sizes;
 ghost use mathlib.Core.Path.{_≡_};
 ghost use Prim.Native.Nat.{_≤_};
 ghost use lib.ListN.{length};
-ghost use Rattle.paper.specs.Store.{savesAt, accepted, refused, clearJob, reasonOf, saveOf, keepOf, clearOf};
+ghost use Rattle.paper.specs.Store.{oldRun, savesAt, accepted, refused, clearJob, reasonOf, saveOf, keepOf, clearOf};
+ghost use Rattle.entries.specs.Row.{InFile};
 ghost use Rattle.store.specs.Beginning.{Rowing, Clearing, refusedBy, placedOf};
 
 // A job of zeros.
@@ -26,6 +28,8 @@ fn refused(r: Refusal) -> Begun
             first: 0,
             written: 0,
             lowers: false,
+            old: 0,
+            many: 0,
             boot: [0u8; 32],
             about: [0u8; 54],
         },
@@ -52,9 +56,10 @@ fn reason(v: Ruled) -> usize
     }
 }
 
-// A save's job at its place.
-fn save_job(file: &[u8], slot: usize, scan: &[u8], about: [u8; 54], first: usize) -> Begun
+// A save's job at its place, which replaces the scan of the run `old`.
+fn save_job(file: &[u8], slot: usize, scan: &[u8], about: [u8; 54], first: usize, old: Run) -> Begun
     requires { ⌜ 32 ≤ length (now file) ⌝ }
+    requires { ⌜ old ≡ oldRun (now file) slot ⌝ }
     ensures { λ b. ⌜ b ≡ accepted (savesAt (now (file .entry)) slot (now (scan .entry)) about first) ⌝ }
 {
     let b = writes::boot::head(file);
@@ -68,6 +73,8 @@ fn save_job(file: &[u8], slot: usize, scan: &[u8], about: [u8; 54], first: usize
             first,
             written: 0,
             lowers: false,
+            old: old.first,
+            many: entries::entry::many(old),
             boot: b,
             about,
         },
@@ -81,6 +88,7 @@ fn clear_job(file: &[u8], z: Sizes, slot: usize) -> Begun
 {
     let b = writes::boot::head(file);
     let top = used::highest_to(file, z, z.u, slot);
+    let old = entries::row::run_at(file, z, slot);
     Begun {
         answer: Taken::Accepted,
         job: Job {
@@ -91,6 +99,8 @@ fn clear_job(file: &[u8], z: Sizes, slot: usize) -> Begun
             first: 0,
             written: 0,
             lowers: slot == top,
+            old: old.first,
+            many: entries::entry::many(old),
             boot: b,
             about: [0u8; 54],
         },
@@ -107,7 +117,7 @@ fn place(
     scan: &[u8],
     about: [u8; 54],
 ) -> Begun
-    requires { ⌜ Rowing (now file) z (now row) (now marks) ⌝ }
+    requires { ⌜ Rowing (now file) z (now row) (now marks) × InFile (now file) z slot ⌝ }
     ensures { λ b. ⌜ b ≡ placedOf (now (file .entry)) slot (now (scan .entry)) about ⌝ }
 {
     let broken = reason(scan::rules::judge(scan, true));
@@ -119,7 +129,8 @@ fn place(
     if first == 0 {
         return refused(Refusal::NoRoom);
     }
-    save_job(file, slot, scan, about, first)
+    let old = entries::row::run_at(file, z, slot);
+    save_job(file, slot, scan, about, first, old)
 }
 
 // A save to a slot that the crew names: 9, then the place.

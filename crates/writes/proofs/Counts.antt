@@ -27,17 +27,17 @@ count-save z j e = rw e
 pub count-clear : (z : Sizes) (j : Job) → j .saves ≡ false → 0 ≡ countOf z j
 count-clear z j e = rw e
 
--- how many in all
+-- how many make the change
 module _ (j : Job) (k : ℕ) where
-  pub total-save : j .saves ≡ true → k + 2 ≡ k + 2 + cond (lowersOf j) 1 0
-  total-save e = omega (arith, ap (λ (b : Bool). cond {A = ℕ} (cond b false (j .lowers)) 1 0) e)
+  pub change-save : j .saves ≡ true → k + 2 ≡ k + 2 + cond (lowersOf j) 1 0
+  change-save e = omega (arith, ap (λ (b : Bool). cond {A = ℕ} (cond b false (j .lowers)) 1 0) e)
 
-  pub total-clear : j .saves ≡ false → j .lowers ≡ false → k + 2 ≡ k + 2 + cond (lowersOf j) 1 0
-  total-clear e l =
+  pub change-clear : j .saves ≡ false → j .lowers ≡ false → k + 2 ≡ k + 2 + cond (lowersOf j) 1 0
+  change-clear e l =
       omega (arith, ap (λ (b : Bool). cond {A = ℕ} (cond b false (j .lowers)) 1 0) e ∙ ap (λ (b : Bool). cond {A = ℕ} b 1 0) l)
 
-  pub total-lowers : j .saves ≡ false → j .lowers ≡ true → k + 3 ≡ k + 2 + cond (lowersOf j) 1 0
-  total-lowers e l =
+  pub change-lowers : j .saves ≡ false → j .lowers ≡ true → k + 3 ≡ k + 2 + cond (lowersOf j) 1 0
+  change-lowers e l =
       omega (arith, ap (λ (b : Bool). cond {A = ℕ} (cond b false (j .lowers)) 1 0) e ∙ ap (λ (b : Bool). cond {A = ℕ} b 1 0) l)
 
 -- the sizes that the job's bootstrap states, with any U

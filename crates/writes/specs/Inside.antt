@@ -47,6 +47,13 @@ pub record Rowed (f : List ℕ) (z : Sizes) (j : Job) : Type 0 where
   pub within : startOf z (j .first + j .written) + z .l ≤ length f
   pub from : j .written * z .l ≤ 4096000000
 
+-- record r lies in the file
+pub record Lying (f : List ℕ) (z : Sizes) (r : ℕ) : Type 0 where
+  pub low : 1 ≤ r
+  pub high : r ≤ 1000000
+  pub l-high : z .l ≤ 4096
+  pub within : startOf z r + z .l ≤ length f
+
 -- bytes 0 to 61 of a save's entry
 abbrev pub frontOf : Sizes → Job → List ℕ
 frontOf z j = words (j .first ∷ (j .first + countOf z j - 1) ∷ []) ++ j .about

@@ -29,8 +29,8 @@ pub fn records(z: Sizes, j: Job) -> usize
     0
 }
 
-// How many a job has to write in all, of which `k` are data records: record 1, the index record, and for a clear that lowers U record 1 again.
-pub fn total(j: Job, k: usize) -> usize
+// How many make a job's change, of which `k` are data records: record 1, the index record, and for a clear that lowers U record 1 again.
+pub fn change(j: Job, k: usize) -> usize
     requires { ⌜ k ≤ 1000001 ⌝ }
     ensures { λ r. ⌜ r ≡ k + 2 + cond (lowersOf j) 1 0 ⌝ }
 {
@@ -41,4 +41,12 @@ pub fn total(j: Job, k: usize) -> usize
         return k + 3;
     }
     k + 2
+}
+
+// How many a job has to write in all: those, and zeros over each record of the old run.
+pub fn total(j: Job, k: usize) -> usize
+    requires { ⌜ (k ≤ 1000001) × (j .many ≤ 1000001) ⌝ }
+    ensures { λ r. ⌜ r ≡ k + 2 + cond (lowersOf j) 1 0 + j .many ⌝ }
+{
+    change(j, k) + j.many
 }

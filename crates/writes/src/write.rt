@@ -1,4 +1,4 @@
-//! The kinds of a job's writes: a data record, record 1, the slot's entry, record 1 with a lowered U. Each answers the record that it wrote.
+//! The kinds of a job's writes: a data record, record 1, the slot's entry, record 1 with a lowered U, a record of zeros. Each answers the record that it wrote.
 use super::boot;
 use super::count;
 use super::entry;
@@ -8,16 +8,16 @@ use paper::job::Stepped;
 use paper::sizes::Sizes;
 ghost use mathlib.Core.Path.{_≡_};
 ghost use Prim.Native.Nat.{_+_, _*_, _≤_, _<_, max};
-ghost use Rattle.lent.specs.Write.{write, pad};
+ghost use Rattle.lent.specs.Write.{write, zeros, pad};
 ghost use Rattle.lent.specs.Part.{part};
 ghost use Rattle.paper.specs.Sizes.{startOf, recordOf, homeOf, bootBytes, renewed};
 ghost use Rattle.paper.specs.Index.{Booted};
 ghost use Rattle.paper.specs.Store.{highest, dataAfter, usedAfter, counterAfter, sizesAfter, entryAfter, lowered};
-ghost use Rattle.writes.specs.Inside.{Held, Homed, Rowed, wroteOne};
+ghost use Rattle.writes.specs.Inside.{Held, Homed, Rowed, Lying, wroteOne};
 
 // The answer for the record written, and the job one write on, which then expects the bootstrap `boot`.
 pub fn wrote(number: usize, j: Job, boot: [u8; 32]) -> Stepped
-    requires { ⌜ j .written ≤ 1000003 ⌝ }
+    requires { ⌜ j .written ≤ 2000004 ⌝ }
     ensures { λ r. ⌜ r ≡ wroteOne number j boot ⌝ }
 {
     let count = j.written + 1;
@@ -111,5 +111,16 @@ pub fn write_entry(file: &mut [u8], z: Sizes, j: Job) -> usize
 {
     let r = z.record(j.slot);
     entry::put_entry(file, z, j);
+    r
+}
+
+// Zeros over a record of the old run.
+pub fn write_zeros(file: &mut [u8], z: Sizes, r: usize) -> usize
+    requires { ⌜ Lying (now file) z r ⌝ }
+    ensures { λ x. ⌜ x ≡ r ⌝ }
+    ensures { λ _. ⌜ now (file .exit) ≡ write (now (file .entry)) (startOf z r) (zeros (z .l)) ⌝ }
+{
+    let l = z.l;
+    lent::write::zero_to(file, (r - 1) * l, l);
     r
 }

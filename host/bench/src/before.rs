@@ -6,7 +6,7 @@
 use crate::case::Case;
 use crate::clock::{Contender, Spread, contest, turns};
 use crate::{suite, table};
-use face::{Calls, Refusal};
+use face::{Answer, Calls, Refusal};
 use libc::{RTLD_LOCAL, RTLD_NOW, c_void, dlopen, dlsym};
 use std::cell::RefCell;
 use std::ffi::CString;
@@ -38,6 +38,11 @@ unsafe extern "C" fn not_there(_: *const u8, _: usize, _: *mut u8, _: usize) -> 
     unreachable!("the library has no such call")
 }
 
+/// The same for the one that asks.
+unsafe extern "C" fn not_asked(_: *const u8, _: usize) -> Answer {
+    unreachable!("the library has no such call")
+}
+
 /// The calls of a shared object. An earlier library may answer with fewer fields: it is given memory for all of today's.
 /// Of what it answers `why`, `done` and `first` are looked at, which stand where they always did. Its job goes back to it
 /// byte for byte as it came, and it takes of that as many bytes as its own job has; so a shorter job does no harm.
@@ -66,6 +71,7 @@ fn load(path: &str) -> Calls {
         step: call!("sdd_step"),
         to_current: not_there,
         to_old: not_there,
+        gaps_zero: not_asked,
     }
 }
 
@@ -114,41 +120,57 @@ mod tests {
     use std::hint::black_box;
     use std::mem::transmute;
 
-    /// A job as it was before request 2026-04: no `lowers`, so the bootstrap and the entry stand 8 bytes lower.
+    /// A job as it was before: of so many numbers, so that the bootstrap and the entry stand lower. Before request 2026-05
+    /// they were seven, without the old scan's run; before 2026-04 they were six, without `lowers`.
     #[repr(C)]
-    struct ShortJob {
-        numbers: [u64; 6],
+    struct ShortJob<const NUMBERS: usize> {
+        numbers: [u64; NUMBERS],
         boot: [u8; 32],
         about: [u8; 54],
     }
 
     #[repr(C)]
-    struct ShortBegun {
+    struct ShortBegun<const NUMBERS: usize> {
         why: Refusal,
-        job: ShortJob,
+        job: ShortJob<NUMBERS>,
     }
 
     #[repr(C)]
-    struct ShortStepped {
+    struct ShortStepped<const NUMBERS: usize> {
         why: Refusal,
         done: u64,
         record: u64,
         written: u64,
-        job: ShortJob,
+        job: ShortJob<NUMBERS>,
     }
 
     const BOOT: [u8; 32] = [0xb0; 32];
     const ABOUT: [u8; 54] = [0xab; 54];
 
-    extern "C" fn save(_: *const u8, _: usize, slot: u64, _: *const u8, len: usize, _: *const u8) -> ShortBegun {
-        let job = ShortJob { numbers: [1, slot, len as u64, 4096, 7, 0], boot: BOOT, about: ABOUT };
-        ShortBegun { why: Refusal::NONE, job }
+    extern "C" fn save<const NUMBERS: usize>(
+        _: *const u8,
+        _: usize,
+        slot: u64,
+        _: *const u8,
+        len: usize,
+        _: *const u8,
+    ) -> ShortBegun<NUMBERS> {
+        let mut numbers = [0; NUMBERS];
+        numbers[..6].copy_from_slice(&[1, slot, len as u64, 4096, 7, 0]);
+        ShortBegun { why: Refusal::NONE, job: ShortJob { numbers, boot: BOOT, about: ABOUT } }
     }
 
     /// Counts to three; a job that did not come back as it went is refused.
-    extern "C" fn step(_: *mut u8, _: usize, _: *const u8, len: usize, mut job: ShortJob) -> ShortStepped {
-        let [saves, _, scan_len, file_len, first, written] = job.numbers;
+    extern "C" fn step<const NUMBERS: usize>(
+        _: *mut u8,
+        _: usize,
+        _: *const u8,
+        len: usize,
+        mut job: ShortJob<NUMBERS>,
+    ) -> ShortStepped<NUMBERS> {
+        let [saves, _, scan_len, file_len, first, written, ..] = job.numbers[..] else { unreachable!("six or more") };
         let as_it_went = [saves, scan_len, file_len, first] == [1, len as u64, 4096, 7];
+        let as_it_went = as_it_went && job.numbers[6..].iter().all(|number| *number == 0);
         let as_it_went = as_it_went && job.boot == BOOT && job.about == ABOUT;
         let number = if as_it_went { 0 } else { face::refused::JOB_DISAGREES };
         job.numbers[5] += u64::from(written < 3);
@@ -156,10 +178,11 @@ mod tests {
         ShortStepped { why: Refusal { number, value: 0 }, done: u64::from(written == 3), record: 1, written, job }
     }
 
-    #[test]
-    fn a_shorter_job_of_an_earlier_library_comes_back_to_it_as_it_went() {
+    /// A save by a library whose job has so many numbers.
+    fn saves_with<const NUMBERS: usize>() {
         // the compiler must not see which functions these are, as it does not see those of a library that is loaded
-        let (save, step) = (black_box(save as *const ()), black_box(step as *const ()));
+        let save = black_box(save::<NUMBERS> as *const ());
+        let step = black_box(step::<NUMBERS> as *const ());
         // SAFETY: the answer is written to memory for a longer one, and of the longer job the first bytes are taken.
         let calls = unsafe { Calls { save: transmute(save), step: transmute(step), ..plain::calls() } };
         let order = Order::Rising;
@@ -168,5 +191,11 @@ mod tests {
         let stepped = stage.save(&calls);
         assert_eq!((stepped.done, stepped.written), (1, 3));
         assert_eq!(stage.free_place(&calls), 7);
+    }
+
+    #[test]
+    fn a_shorter_job_of_an_earlier_library_comes_back_to_it_as_it_went() {
+        saves_with::<6>();
+        saves_with::<7>();
     }
 }

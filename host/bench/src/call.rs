@@ -2,9 +2,10 @@
 
 use crate::file::{File, M};
 use crate::map::Map;
-use face::{Calls, Job, Opened, Refusal, Stepped};
+use face::{Answer, Calls, Job, Opened, Refusal, Stepped};
 use std::fmt;
 use std::hint::black_box;
+use std::ops::Range;
 use std::ptr::null;
 
 /// What the entry of a saved scan holds after its first and last record.
@@ -21,6 +22,8 @@ pub enum Call {
     /// The last class of the scan, and its data.
     Class,
     Data,
+    /// Whether the data records of no scan are zeros: they are, so all of them are looked at.
+    Gaps,
     Blank,
     /// The beginning of a save of so many bytes to the last slot.
     BeginSave(usize),
@@ -30,9 +33,12 @@ pub enum Call {
     Save(usize),
     /// The same to the slot after those in use: for U the empty slots above it are looked at.
     SaveNext(usize),
-    /// A clear of the last slot, which holds a scan of so many bytes. It is the highest, so U is lowered by a third write.
+    /// The same to the slot in the middle of those in use: its old scan is zeroed at the end.
+    Replace(usize),
+    /// A clear of the last slot, which holds a scan of so many bytes. It is the highest, so U is lowered by a third write;
+    /// then come the zeros.
     Clear(usize),
-    /// A clear of the slot in the middle of those in use: two writes.
+    /// A clear of the slot in the middle of those in use: two writes, and the zeros.
     ClearMiddle,
     /// Bootstrap and index into a second buffer of N records, in the current form or in the old one.
     ToCurrent,
@@ -47,7 +53,7 @@ impl Call {
 
     /// Whether it is a whole save.
     pub fn saves(self) -> bool {
-        matches!(self, Call::Save(_) | Call::SaveNext(_))
+        matches!(self, Call::Save(_) | Call::SaveNext(_) | Call::Replace(_))
     }
 
     /// Whether it is a whole job.
@@ -66,12 +72,14 @@ impl fmt::Display for Call {
             Call::Read => f.write_str("read"),
             Call::Class => f.write_str("class"),
             Call::Data => f.write_str("data"),
+            Call::Gaps => f.write_str("gaps"),
             Call::Blank => f.write_str("blank"),
             Call::BeginSave(bytes) => write!(f, "begin save {bytes}"),
             Call::BeginKeep(bytes) => write!(f, "begin keep {bytes}"),
             Call::BeginClear => f.write_str("begin clear"),
             Call::Save(bytes) => write!(f, "save {bytes}"),
             Call::SaveNext(bytes) => write!(f, "save next {bytes}"),
+            Call::Replace(bytes) => write!(f, "save replacing {bytes}"),
             Call::Clear(bytes) => write!(f, "clear {bytes}"),
             Call::ClearMiddle => f.write_str("clear middle"),
             Call::ToCurrent => f.write_str("to_current"),
@@ -92,6 +100,8 @@ pub struct Stage {
     /// Record 1 and that slot's entry, as they are before the job.
     boot: [u8; 32],
     entry: [u8; M],
+    /// The records of the scan that the slot has then; none where it is empty.
+    pub old: Range<usize>,
 }
 
 impl Stage {
@@ -99,20 +109,26 @@ impl Stage {
     pub fn new(file: File, call: Call) -> Stage {
         let bytes = match call {
             Call::BeginSave(bytes) | Call::BeginKeep(bytes) => bytes,
-            Call::Save(bytes) | Call::SaveNext(bytes) | Call::Clear(bytes) => bytes,
+            Call::Save(bytes) | Call::SaveNext(bytes) | Call::Replace(bytes) | Call::Clear(bytes) => bytes,
             _ => 512,
         };
         let second = Map::new(file.plan.n() * file.plan.l());
         let (scan, out) = (sample::scan(bytes, 9), vec![0; 3 * 4096]);
         let slot = match call {
-            Call::ClearMiddle => file.middle(),
+            Call::ClearMiddle | Call::Replace(_) => file.middle(),
             Call::SaveNext(_) => file.plan.used + 1,
             _ => file.plan.slots,
         };
-        let mut stage = Stage { file, scan, out, second, slot, boot: [0; 32], entry: [0; M] };
+        let mut stage = Stage { file, scan, out, second, slot, boot: [0; 32], entry: [0; M], old: 0..0 };
         if matches!(call, Call::Clear(_)) {
             let saved = stage.save(&plain::calls());
             assert!(saved.done == 1, "no scan to clear: {:?}", saved.why);
+        }
+        if call == Call::Gaps {
+            stage.file.touch_gaps();
+        }
+        if call.is_job() {
+            stage.old = stage.file.records(stage.slot);
         }
         let home = stage.home();
         let bytes = stage.file.map.bytes();
@@ -130,7 +146,8 @@ impl Stage {
         self.file.plan.home(self.slot)
     }
 
-    /// Makes the call once. A job is undone again: two copies of 96 bytes, for either side.
+    /// Makes the call once. A job is undone again: two copies of 96 bytes, for either side. What it has zeroed stays so,
+    /// since to write zeros costs the same whatever was there.
     pub fn make(&mut self, calls: &Calls, call: Call) {
         let (at, len) = (self.file.map.pointer(), self.file.map.size());
         let (scan, scan_len) = (self.scan.as_ptr(), self.scan.len());
@@ -146,13 +163,14 @@ impl Stage {
                 Call::Read => _ = black_box((calls.read)(at, len, middle)),
                 Call::Class => _ = black_box((calls.class)(scan, scan_len, 13)),
                 Call::Data => _ = black_box((calls.data)(scan, scan_len)),
+                Call::Gaps => _ = black_box((calls.gaps_zero)(at, len)),
                 Call::Blank => _ = black_box((calls.blank)(at, len, n, l, m)),
                 Call::BeginSave(_) => {
                     black_box((calls.save)(at, len, self.slot(), scan, scan_len, ABOUT.as_ptr()));
                 }
                 Call::BeginKeep(_) => _ = black_box((calls.keep)(at, len, scan, scan_len, ABOUT.as_ptr())),
                 Call::BeginClear => _ = black_box((calls.clear)(at, len, middle)),
-                Call::Save(_) | Call::SaveNext(_) => {
+                Call::Save(_) | Call::SaveNext(_) | Call::Replace(_) => {
                     black_box(self.save(calls));
                     self.undo();
                 }
@@ -185,6 +203,12 @@ impl Stage {
     pub fn opened(&self, calls: &Calls) -> Opened {
         // SAFETY: as in `make`.
         unsafe { (calls.open)(self.file.map.pointer(), self.file.map.size()) }
+    }
+
+    /// What is answered of the gaps.
+    pub fn asked(&self, calls: &Calls) -> Answer {
+        // SAFETY: as in `make`.
+        unsafe { (calls.gaps_zero)(self.file.map.pointer(), self.file.map.size()) }
     }
 
     /// A save from its beginning to its last step's answer.
@@ -229,12 +253,14 @@ impl Stage {
         move || _ = self.steps(&calls, job, null(), 0)
     }
 
-    /// A whole job: its last answer, and what it leaves of record 1 and of its entry. It is undone again.
+    /// A whole job: its last answer, and what it leaves of record 1, of its entry and of the old scan. It is undone again.
     pub fn done(&mut self, calls: &Calls, call: Call) -> (Stepped, Vec<u8>) {
+        let old = self.old.clone();
+        self.file.map.bytes()[old.clone()].fill(0xa5);
         let stepped = if call.saves() { self.save(calls) } else { self.clear(calls) };
         let home = self.home();
         let bytes = self.file.map.bytes();
-        let left = [&bytes[..32], &bytes[home..home + M]].concat();
+        let left = [&bytes[..32], &bytes[home..home + M], &bytes[old]].concat();
         self.undo();
         (stepped, left)
     }

@@ -6,6 +6,7 @@ use crate::file::{File, Form, M, Plan};
 use crate::limit;
 use face::Calls;
 use std::cell::RefCell;
+use std::ops::Range;
 use std::time::Duration;
 
 /// A call on a file.
@@ -22,7 +23,8 @@ pub struct Case {
 pub struct Times {
     pub library: f64,
     pub plain: f64,
-    /// The decoding passes that the call cannot do without, and one copy of the scan, or one fill of N records.
+    /// The decoding passes that the call cannot do without, and one copy of the scan, one fill of N records or of the old
+    /// scan's, or one pass of C's memcmp over the gaps.
     pub limit: f64,
     /// An open of the same file by the library.
     pub open: f64,
@@ -68,9 +70,28 @@ impl Case {
             let same = stage.converted(library, self.call) == stage.converted(plain, self.call);
             assert!(same, "{}: the two do not write the same", self.name());
         }
+        if self.call == Call::Gaps {
+            let asked = [library, plain].map(|calls| stage.asked(calls));
+            assert!(asked[0] == asked[1] && asked[0].yes == 1, "{}: {asked:?}", self.name());
+        }
         if self.call.is_job() {
             let done = [library, plain].map(|calls| stage.done(calls, self.call));
             assert_eq!(done[0], done[1], "{}: the two do not end the same", self.name());
+        }
+    }
+
+    /// The one pass over bytes that the call cannot do without, beside its judgements: of these gaps, of a scan that is copied
+    /// to its place and of the old one's records, of N records.
+    fn pass(&self, stage: &mut Stage, gaps: &[Range<usize>], place: usize, copied: &[u8]) {
+        let (file, l) = (stage.file.map.bytes(), self.plan.l());
+        match self.call {
+            Call::Blank => file[..self.plan.n() * l].fill(0),
+            Call::Gaps => assert!(limit::zeros(file, l, gaps)),
+            Call::ToCurrent | Call::ToOld => stage.second.bytes().fill(0),
+            _ => {
+                file[place..place + copied.len()].copy_from_slice(copied);
+                file[stage.old.clone()].fill(0);
+            }
         }
     }
 
@@ -81,7 +102,8 @@ impl Case {
         self.agree(&mut stage, &library, &plain);
         let l = self.plan.l();
         let place = (stage.free_place(&plain).max(1) - 1) * l;
-        let copied = if matches!(self.call, Call::Save(_)) { stage.scan.clone() } else { Vec::new() };
+        let copied = if self.call.saves() { stage.scan.clone() } else { Vec::new() };
+        let gaps = if self.call == Call::Gaps { stage.file.gaps() } else { Vec::new() };
         let mut row = vec![0u32; 2 * self.plan.slots];
         let stage = RefCell::new(stage);
         let mut contenders: Vec<Contender> = vec![
@@ -89,16 +111,10 @@ impl Case {
             turns(|| stage.borrow_mut().make(&plain, self.call)),
             turns(|| {
                 let stage = &mut *stage.borrow_mut();
-                let file = stage.file.map.bytes();
                 for _ in 0..self.judgements() {
-                    limit::decode(file, &self.plan, &mut row);
+                    limit::decode(stage.file.map.bytes(), &self.plan, &mut row);
                 }
-                match self.call {
-                    Call::Blank => file[..self.plan.n() * l].fill(0),
-                    Call::Save(_) => file[place..place + copied.len()].copy_from_slice(&copied),
-                    Call::ToCurrent | Call::ToOld => stage.second.bytes().fill(0),
-                    _ => (),
-                }
+                self.pass(stage, &gaps, place, &copied);
             }),
             turns(|| stage.borrow_mut().make(&library, Call::Open)),
             turns(|| {

@@ -1,4 +1,4 @@
-//! No call walks the data section: its pages are closed, and the calls are made. One that reads or writes there ends the
+//! No call walks what is not its own of the data section: those pages are closed, and the calls are made. One that reads or writes there ends the
 //! process, so this runs in a process of its own.
 
 use crate::call::{Call, Stage};
@@ -34,7 +34,7 @@ fn convert(calls: &Calls, call: Call, form: Form, order: Order) {
 }
 
 /// Makes every call with closed pages: all data records for the calls that need none of them, all but the first of its
-/// own for a read, all but its own for a save.
+/// own for a read, all but its own and the old scan's for a job, all but the gaps for the question of these.
 pub fn make(calls: &Calls) {
     let needs_none = [
         Call::Open,
@@ -45,8 +45,6 @@ pub fn make(calls: &Calls) {
         Call::BeginSave(65_536),
         Call::BeginKeep(65_536),
         Call::BeginClear,
-        Call::Clear(65_536),
-        Call::ClearMiddle,
     ];
     for order in Order::ALL {
         for call in needs_none {
@@ -63,12 +61,38 @@ pub fn make(calls: &Calls) {
         read(calls, old_stage(Call::Read, order));
         convert(calls, Call::ToCurrent, Form::Old, order);
         convert(calls, Call::ToOld, Form::Current, order);
-        let mut saves = stage(Call::Save(65_536), order);
-        let place = (saves.free_place(calls) - 1) * saves.file.plan.l();
-        close_data(&saves);
-        saves.file.map.open(place..place + 65_536);
-        saves.make(calls, Call::Save(65_536));
+        for call in [Call::Save(65_536), Call::Replace(65_536), Call::Clear(65_536), Call::ClearMiddle] {
+            job(calls, stage(call, order), call);
+        }
+        for form in Form::ALL {
+            gaps(calls, order, form);
+        }
     }
+}
+
+/// A whole job with all records closed but those that it writes its scan to, and those of the scan that the slot had.
+fn job(calls: &Calls, mut stage: Stage, call: Call) {
+    let place = (stage.free_place(calls) - 1) * stage.file.plan.l();
+    close_data(&stage);
+    if call.saves() {
+        stage.file.map.open(place..place + 65_536);
+    }
+    if !stage.old.is_empty() {
+        stage.file.map.open(stage.old.clone());
+    }
+    stage.make(calls, call);
+}
+
+/// The question of the gaps, with the records of all scans closed and those past the last data record. A record is a page
+/// long where pages have 4,096 bytes.
+fn gaps(calls: &Calls, order: Order, form: Form) {
+    let plan = Plan { slots: 4096, m: 512, used: 4000, run: 2, gap: 1, order, room: 16_384, form };
+    let mut stage = Stage::new(File::new(plan), Call::Gaps);
+    close_data(&stage);
+    for gap in stage.file.gaps() {
+        stage.file.map.open(gap);
+    }
+    assert!(stage.asked(calls).yes == 1, "the gaps are zeros");
 }
 
 /// A read with all records closed but the first of its own.

@@ -2,6 +2,7 @@
 
 use crate::map::Map;
 use std::fmt;
+use std::ops::Range;
 
 /// Bytes per index entry, but for some conversions; a record has eight entries in every file here.
 pub const M: usize = 64;
@@ -153,6 +154,36 @@ impl File {
         let entry = &self.map.bytes()[home..];
         let word = |bytes: &[u8]| bytes.iter().fold(0, |word, byte| word << 8 | usize::from(*byte));
         (word(&entry[..size]), word(&entry[size..2 * size]))
+    }
+
+    /// The bytes of a slot's records, none where it is empty.
+    pub fn records(&mut self, slot: usize) -> Range<usize> {
+        let l = self.plan.l();
+        match self.run(slot) {
+            (0, _) => 0..0,
+            (first, last) => (first - 1) * l..last * l,
+        }
+    }
+
+    /// The bytes of the data records that belong to no scan, lowest first.
+    pub fn gaps(&mut self) -> Vec<Range<usize>> {
+        let mut scans: Vec<Range<usize>> = (1..=self.plan.used).map(|slot| self.records(slot)).collect();
+        scans.sort_unstable_by_key(|scan| scan.start);
+        let mut next = self.plan.n() * self.plan.l();
+        let between = scans.into_iter().map(|scan| {
+            let gap = next..scan.start;
+            next = scan.end;
+            gap
+        });
+        // the last data record is a scan's in every file here
+        between.filter(|gap| !gap.is_empty()).collect()
+    }
+
+    /// Writes zeros there, so that they have pages of their own, as the bytes of a file that was read.
+    pub fn touch_gaps(&mut self) {
+        for gap in self.gaps() {
+            self.map.bytes()[gap].fill(0);
+        }
     }
 
     /// Makes the last slot in use share a record with the first one.

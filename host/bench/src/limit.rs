@@ -2,6 +2,7 @@
 
 use crate::file::{Form, Plan};
 use std::hint::black_box;
+use std::ops::Range;
 
 /// First and last record of every slot, decoded into a row: one pass over the index.
 pub fn decode(file: &[u8], plan: &Plan, row: &mut [u32]) {
@@ -40,6 +41,17 @@ pub fn copy(file: &mut [u8], l: usize, at: usize, scan: &[u8]) {
         record[..piece.len()].copy_from_slice(black_box(piece));
         record[piece.len()..].fill(0);
     }
+}
+
+/// Whether every record of these parts is zeros: each compared with a record of zeros by C's memcmp, one pass over their
+/// bytes.
+pub fn zeros(file: &[u8], l: usize, parts: &[Range<usize>]) -> bool {
+    let zeros = [0u8; 4_096];
+    let is_zeros = |record: &[u8]| {
+        // SAFETY: both have L bytes, which are at most 4,096.
+        unsafe { libc::memcmp(black_box(record.as_ptr()).cast(), zeros.as_ptr().cast(), l) == 0 }
+    };
+    parts.iter().all(|part| file[part.clone()].chunks_exact(l).all(is_zeros))
 }
 
 /// The records compared with the scan.

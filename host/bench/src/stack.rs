@@ -77,12 +77,13 @@ pub fn depths(calls: &Calls) -> Vec<Depth> {
         ("clear", Call::BeginClear),
         ("to_current", Call::ToCurrent),
         ("to_old", Call::ToOld),
+        ("gaps_zero", Call::Gaps),
     ];
     let mut depths: Vec<Depth> = alone
         .map(|(name, call)| Depth { name, bytes: deepest(call, &|stage| depth(&mut || stage.make(calls, call))) })
         .into();
-    // a save and a clear of the highest slot have every kind of step there is
-    let saves = deepest(Call::Save(65_536), &|stage| depth(&mut stage.steps_of_save(calls)));
+    // a save over a scan and a clear of the highest slot have every kind of step there is
+    let saves = deepest(Call::Replace(65_536), &|stage| depth(&mut stage.steps_of_save(calls)));
     let clears = deepest(Call::Clear(65_536), &|stage| depth(&mut stage.steps_of_clear(calls)));
     depths.push(Depth { name: "step", bytes: saves.max(clears) });
     depths

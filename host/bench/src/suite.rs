@@ -74,6 +74,22 @@ fn looks() -> Vec<Case> {
     cases
 }
 
+/// The question of the gaps on 32 MiB of records, of 512 and of 4,096 bytes: most of them in no scan, and half of them; and
+/// half of what the old form can name.
+fn gaps(orders: &[Order]) -> Vec<Case> {
+    let plan = |m, room, used, run, gap, order| Plan { m, room, used, gap, ..full(4096, order, run) };
+    let mut cases = vec![
+        case(Call::Gaps, plan(M, 65_536, 256, 1, 252, Order::Rising)),
+        case(Call::Gaps, plan(512, 8_192, 64, 1, 118, Order::Rising)),
+    ];
+    for order in orders {
+        cases.push(case(Call::Gaps, plan(M, 65_536, 4_096, 8, 7, *order)));
+        cases.push(case(Call::Gaps, plan(512, 8_192, 3_800, 1, 1, *order)));
+        cases.push(case(Call::Gaps, Plan { used: 2_048, gap: 8, ..old(*order, OLD_RUN) }));
+    }
+    cases
+}
+
 /// Whole jobs: 1,000 records of which few are used, 100,000 and 1,000,000 with an index that is nearly full.
 fn jobs(orders: &[Order], sizes: &[usize]) -> Vec<Case> {
     let mut cases = Vec::new();
@@ -81,7 +97,8 @@ fn jobs(orders: &[Order], sizes: &[usize]) -> Vec<Case> {
         for order in orders {
             let plan = Plan { used, room, ..full(4096, *order, run) };
             for bytes in sizes {
-                cases.extend([Call::Save, Call::SaveNext, Call::Clear].map(|call| case(call(*bytes), plan)));
+                let calls = [Call::Save, Call::SaveNext, Call::Replace, Call::Clear];
+                cases.extend(calls.map(|call| case(call(*bytes), plan)));
             }
             cases.push(case(Call::ClearMiddle, plan));
         }
@@ -89,8 +106,9 @@ fn jobs(orders: &[Order], sizes: &[usize]) -> Vec<Case> {
     cases
 }
 
-/// The lines that a change of the library is held to: 4,096 slots of the current form. A clear of the highest slot is
-/// none of them: since request 2026-04 it has a write more.
+/// The lines that a change of the library is held to: 4,096 slots of the current form. No clear and no save over a scan is
+/// one of them: since request 2026-05 they write zeros over it, and a clear of the highest slot has a write more since
+/// 2026-04. A save to an empty slot costs what it did.
 pub fn before() -> Vec<Case> {
     let mut cases: Vec<Case> = Order::ALL.map(|order| case(Call::Open, full(4096, order, 8))).into();
     for order in [Order::Rising, Order::Random] {
@@ -99,7 +117,7 @@ pub fn before() -> Vec<Case> {
             [Call::List, Call::Entry, Call::Read, Call::BeginSave(65_536), Call::BeginKeep(512), Call::BeginClear];
         cases.extend(calls.map(|call| case(call, plan)));
         for used in [256, 4000] {
-            let jobs = [Call::Save(65_536), Call::SaveNext(512), Call::SaveNext(65_536), Call::ClearMiddle];
+            let jobs = [Call::Save(512), Call::Save(65_536), Call::SaveNext(512), Call::SaveNext(65_536)];
             cases.extend(jobs.map(|call| case(call, Plan { used, ..plan })));
         }
     }
@@ -108,11 +126,12 @@ pub fn before() -> Vec<Case> {
 
 /// Every line.
 pub fn all() -> Vec<Case> {
-    [opens(1024), opens(4096), looks(), olds(), moves(), jobs(&[Order::Rising, Order::Random], &[512, 4_096, 65_536])]
-        .concat()
+    let orders = [Order::Rising, Order::Random];
+    [opens(1024), opens(4096), looks(), olds(), moves(), gaps(&orders), jobs(&orders, &[512, 4_096, 65_536])].concat()
 }
 
 /// Those that the verdicts rest on most.
 pub fn quick() -> Vec<Case> {
-    [opens(4096), looks(), olds(), moves(), jobs(&[Order::Rising, Order::Random], &[65_536])].concat()
+    let orders = [Order::Rising, Order::Random];
+    [opens(4096), looks(), olds(), moves(), gaps(&orders[..1]), jobs(&orders, &[65_536])].concat()
 }

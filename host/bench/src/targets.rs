@@ -43,6 +43,19 @@ fn over_plain<'a>(target: &'static str, lines: impl Iterator<Item = &'a Line>) -
     worst(target, 1.1, lines, |line| line.beside_plain().middle)
 }
 
+/// What the question of the gaps may take, times what C's memcmp takes to go over their bytes once.
+const GAPS_LIMIT: f64 = 1.25;
+
+/// The worst of these lines beside the limit of its bytes.
+fn over_limit<'a>(target: &'static str, limit: f64, lines: impl Iterator<Item = &'a Line>) -> Verdict {
+    worst(target, limit, lines, |line| line.beside_limit().middle)
+}
+
+/// Whether a line is of the question of the gaps.
+fn is_gaps(line: &Line) -> bool {
+    line.case.call == Call::Gaps
+}
+
 /// Whether a line is of the old form.
 fn is_old(line: &Line) -> bool {
     line.case.plan.form == Form::Old
@@ -81,24 +94,18 @@ pub fn verdicts(lines: &[Line], growths: &[Growth], stack: usize, left_alone: bo
     let saves = of(&|line| matches!(line.case.call, Call::Save(_)));
     let (exponent, what) = steepest(growths);
     vec![
-        worst(
-            "open of a full index, rising, over the decoding pass",
-            2.5,
-            opens().filter(|line| rises(line)),
-            |line| line.beside_limit().middle,
-        ),
-        worst("open of a full index, any other order, the same", 6.0, opens().filter(|line| !rises(line)), |line| {
-            line.beside_limit().middle
-        }),
+        over_limit("open of a full index, rising, over the decoding pass", 2.5, opens().filter(|line| rises(line))),
+        over_limit("open of a full index, any other order, the same", 6.0, opens().filter(|line| !rises(line))),
         over_plain("any line over plain Rust", of(&|line| !is_move(line) && !is_old(line))),
         over_plain("any line of the old form over plain Rust", of(&|line| !is_move(line) && is_old(line))),
         over_plain("any conversion over plain Rust", of(&is_move)),
+        over_limit("the question of the gaps over one pass of memcmp", GAPS_LIMIT, of(&is_gaps)),
         Verdict { target: "growth with the slots, exponent", value: exponent, limit: 1.1, place: what },
         worst("a whole save over two opens and 1.2 times its copies", 1.0, saves, |line| {
             line.spread(save_beside).middle
         }),
         Verdict {
-            target: "calls that walk the data section",
+            target: "calls that walk what is not theirs of the data section",
             value: if left_alone { 0.0 } else { 1.0 },
             limit: 0.0,
             place: "pages closed".to_string(),

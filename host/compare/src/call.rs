@@ -1,6 +1,6 @@
 //! A call with its arguments, its answer as the face gives it, and what the model expects.
 
-use face::{Begun, Entry, Job, Listed, Opened, Refusal, Span, Stepped};
+use face::{Answer as YesNo, Begun, Entry, Job, Listed, Opened, Refusal, Span, Stepped};
 use model::Write;
 
 /// What is lent to a call: as it is before, or as it should be after it.
@@ -14,7 +14,7 @@ pub struct Lent<'a> {
     pub second: &'a [u8],
 }
 
-/// One of the fourteen calls; what it is lent is the world's.
+/// One of the fifteen calls; what it is lent is the world's.
 #[allow(missing_docs)]
 #[derive(Clone, Copy, Debug)]
 pub enum Call {
@@ -32,10 +32,11 @@ pub enum Call {
     Step { job: Job },
     ToCurrent,
     ToOld,
+    GapsZero,
 }
 
 /// The names of the calls, in the header's order.
-pub const NAMES: [&str; 14] = [
+pub const NAMES: [&str; 15] = [
     "open",
     "list",
     "entry",
@@ -50,6 +51,7 @@ pub const NAMES: [&str; 14] = [
     "step",
     "to_current",
     "to_old",
+    "gaps_zero",
 ];
 
 impl Call {
@@ -70,6 +72,7 @@ impl Call {
             Call::Step { .. } => 11,
             Call::ToCurrent => 12,
             Call::ToOld => 13,
+            Call::GapsZero => 14,
         }
     }
 }
@@ -85,6 +88,7 @@ pub enum Answer {
     Refusal(Refusal),
     Begun(Begun),
     Stepped(Stepped),
+    YesNo(YesNo),
 }
 
 impl Answer {
@@ -98,6 +102,7 @@ impl Answer {
             Answer::Refusal(a) => *a,
             Answer::Begun(a) => a.why,
             Answer::Stepped(a) => a.why,
+            Answer::YesNo(a) => a.why,
         }
     }
 
@@ -105,7 +110,7 @@ impl Answer {
     /// answers are the same where these bytes are. Every NaN value counts as one,
     /// since the header promises no more; its bits are compared in their own field.
     pub fn bytes(&self) -> Vec<u8> {
-        let mut all = Vec::with_capacity(176);
+        let mut all = Vec::with_capacity(192);
         let why = self.why();
         put4(&mut all, &[why.number, why.value]);
         match self {
@@ -121,6 +126,7 @@ impl Answer {
                 put8(&mut all, &[a.done, a.record, a.written]);
                 put_job(&mut all, &a.job);
             }
+            Answer::YesNo(a) => put8(&mut all, &[a.yes]),
         }
         all
     }
@@ -137,6 +143,7 @@ fn put8(all: &mut Vec<u8>, numbers: &[u64]) {
 /// A job's fields, as [`Answer::bytes`] has them.
 pub fn put_job(all: &mut Vec<u8>, job: &Job) {
     put8(all, &[job.saves, job.slot, job.scan_len, job.file_len, job.first, job.written, job.lowers]);
+    put8(all, &[job.old_first, job.old_count]);
     all.extend(job.boot);
     all.extend(job.about);
 }
@@ -191,6 +198,7 @@ impl Expected {
             Call::Step { job } => stepped(file, scan, &job),
             Call::ToCurrent => converted(model::to_current(file, second.len())),
             Call::ToOld => converted(model::to_old(file, second.len())),
+            Call::GapsZero => only(Answer::YesNo(yes_or_no(model::gaps_zero(file)))),
         }
     }
 }
@@ -267,6 +275,13 @@ fn span(answer: model::Answer<(u64, u64)>) -> Answer {
     })
 }
 
+fn yes_or_no(answer: model::Answer<bool>) -> YesNo {
+    match answer {
+        Err(why) => YesNo { why: refusal(why), yes: 0 },
+        Ok(yes) => YesNo { why: Refusal::NONE, yes: u64::from(yes) },
+    }
+}
+
 fn blank(file: &[u8], n: u64, l: u64, m: u64) -> Expected {
     let (why, write) = changed(model::blank(file.len() as u64, n, l, m));
     Expected { write, ..Expected::only(Answer::Refusal(why)) }
@@ -312,12 +327,13 @@ fn stepped(file: &[u8], scan: &[u8], job: &Job) -> Expected {
 }
 
 fn to_face(job: &model::Job) -> Job {
-    let model::Job { saves, slot, scan_len, file_len, first, written, lowers, boot, about } = *job;
-    Job { saves, slot, scan_len, file_len, first, written, lowers, boot, about }
+    let model::Job { saves, slot, scan_len, file_len, first, written, lowers, old_first, old_count, boot, about } =
+        *job;
+    Job { saves, slot, scan_len, file_len, first, written, lowers, old_first, old_count, boot, about }
 }
 
 /// A job as the model has it.
 pub fn to_model(job: &Job) -> model::Job {
-    let Job { saves, slot, scan_len, file_len, first, written, lowers, boot, about } = *job;
-    model::Job { saves, slot, scan_len, file_len, first, written, lowers, boot, about }
+    let Job { saves, slot, scan_len, file_len, first, written, lowers, old_first, old_count, boot, about } = *job;
+    model::Job { saves, slot, scan_len, file_len, first, written, lowers, old_first, old_count, boot, about }
 }

@@ -63,6 +63,7 @@ impl Linked {
                 Call::Step { job } => Answer::Stepped((calls.step)(file, file_len, scan, scan_len, job)),
                 Call::ToCurrent => Answer::Refusal((calls.to_current)(file, file_len, second, second_len)),
                 Call::ToOld => Answer::Refusal((calls.to_old)(file, file_len, second, second_len)),
+                Call::GapsZero => Answer::YesNo((calls.gaps_zero)(file, file_len)),
             }
         }
     }

@@ -60,7 +60,7 @@ impl<W: Write> Recorder<W> {
 
     fn arguments(&mut self, call: &Call) {
         match *call {
-            Call::Open | Call::Data | Call::Keep | Call::ToCurrent | Call::ToOld => (),
+            Call::Open | Call::Data | Call::Keep | Call::ToCurrent | Call::ToOld | Call::GapsZero => (),
             Call::List { out_len } => self.number(out_len as u64),
             Call::Entry { slot } | Call::Show { slot } | Call::Read { slot } => self.number(slot),
             Call::Save { slot } | Call::Clear { slot } => self.number(slot),

@@ -1,7 +1,8 @@
-//! What was reached: calls, refusals and reasons, the refusals of old files once more by themselves, conversions, and what
-//! jobs did to U.
+//! What was reached: calls, refusals and reasons, the refusals of old files once more by themselves, conversions, what
+//! jobs did to U, and what became of their old runs and of the gaps.
 
 use crate::call::{Answer, Call, Lent, NAMES};
+use crate::gaps::Gaps;
 use crate::moves::Moves;
 use crate::used::Used;
 use std::fmt;
@@ -20,7 +21,7 @@ const OLD: [(&str, &[usize]); 3] = [
 #[derive(Clone, Default, PartialEq, Eq)]
 pub struct Tally {
     /// By call, in the header's order.
-    pub calls: [u64; 14],
+    pub calls: [u64; 15],
     /// By refusal; the element at 0 counts accepted calls.
     pub refusals: [u64; NUMBERS],
     /// By the reason in refusal 11; the element at 0 is not used.
@@ -33,12 +34,15 @@ pub struct Tally {
     pub(crate) moves: Moves,
     /// What jobs did to U.
     used: Used,
+    /// What became of old runs, and what was answered of gaps.
+    gaps: Gaps,
 }
 
 /// Which of the rows of `OLD` a call counts for; none where the file's form does not matter to it.
 fn old_row(call: &Call) -> Option<usize> {
     match call {
         Call::Open | Call::List { .. } | Call::Entry { .. } | Call::Show { .. } | Call::Read { .. } => Some(0),
+        Call::GapsZero => Some(0),
         Call::Save { .. } | Call::Keep | Call::Clear { .. } => Some(1),
         Call::Step { .. } => Some(2),
         Call::Class { .. } | Call::Data | Call::Blank { .. } => None,
@@ -66,6 +70,7 @@ impl Tally {
         }
         self.moves.count(call, why.number, lent.file);
         self.used.count(call, answer, lent);
+        self.gaps.count(call, answer, lent);
     }
 
     /// All calls.
@@ -87,18 +92,19 @@ impl Tally {
         let counts =
             self.calls.iter_mut().chain(&mut self.refusals).chain(&mut self.reasons).chain(&mut self.confirmed);
         let counts = counts.chain(self.old.iter_mut().flatten()).chain(self.moves.numbers_mut());
-        let counts = counts.chain(self.used.numbers_mut());
+        let counts = counts.chain(self.used.numbers_mut()).chain(self.gaps.numbers_mut());
         counts.zip(numbers).for_each(|(count, number)| *count += number);
         true
     }
 
     fn numbers(&self) -> impl Iterator<Item = u64> {
         let counts = self.calls.iter().chain(&self.refusals).chain(&self.reasons).chain(&self.confirmed);
-        counts.chain(self.old.iter().flatten()).chain(self.moves.numbers()).chain(self.used.numbers()).copied()
+        let counts = counts.chain(self.old.iter().flatten()).chain(self.moves.numbers());
+        counts.chain(self.used.numbers()).chain(self.gaps.numbers()).copied()
     }
 
     /// Refusals, reasons and confirmations that no case reached, of an old file what it can be answered with, and of
-    /// conversions and of U all that is counted.
+    /// conversions, of U and of gaps all that is counted.
     pub fn unreached(&self) -> Vec<String> {
         let mut missing = Vec::new();
         let mut look = |name: &str, counts: &[u64], from: usize| {
@@ -118,7 +124,8 @@ impl Tally {
         missing
             .extend(Moves::names().zip(self.moves.numbers()).filter(|(_, count)| **count == 0).map(|(name, _)| name));
         let used = Used::names().zip(self.used.numbers()).filter(|(_, count)| **count == 0);
-        missing.extend(used.map(|(name, _)| name.to_string()));
+        let gaps = Gaps::names().zip(self.gaps.numbers()).filter(|(_, count)| **count == 0);
+        missing.extend(used.chain(gaps).map(|(name, _)| name.to_string()));
         missing
     }
 }
@@ -153,6 +160,10 @@ impl fmt::Display for Tally {
         }
         writeln!(f, "U")?;
         for (name, count) in Used::names().zip(self.used.numbers()) {
+            writeln!(f, "  {count:>9}  {name}")?;
+        }
+        writeln!(f, "old runs and gaps")?;
+        for (name, count) in Gaps::names().zip(self.gaps.numbers()) {
             writeln!(f, "  {count:>9}  {name}")?;
         }
         Ok(())

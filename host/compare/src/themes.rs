@@ -7,6 +7,7 @@ mod cuts;
 mod edges;
 mod files;
 mod forged;
+mod gaps;
 mod giant;
 mod histories;
 mod moved;
@@ -31,18 +32,19 @@ pub struct Theme {
 }
 
 /// The themes whose turn comes by chance.
-pub const THEMES: [Theme; 11] = [
-    Theme { name: "files", share: 16, round: files::round },
-    Theme { name: "edges", share: 11, round: edges::round },
-    Theme { name: "scans", share: 13, round: scans::round },
+pub const THEMES: [Theme; 12] = [
+    Theme { name: "files", share: 15, round: files::round },
+    Theme { name: "edges", share: 10, round: edges::round },
+    Theme { name: "scans", share: 11, round: scans::round },
     Theme { name: "blanks", share: 4, round: blanks::round },
-    Theme { name: "histories", share: 11, round: histories::round },
+    Theme { name: "histories", share: 9, round: histories::round },
     Theme { name: "cuts", share: 6, round: cuts::round },
     Theme { name: "forged", share: 7, round: forged::round },
     Theme { name: "confirming", share: 7, round: confirming::round },
     Theme { name: "older", share: 7, round: older::round },
-    Theme { name: "moved", share: 9, round: moved::round },
-    Theme { name: "used", share: 9, round: used::round },
+    Theme { name: "moved", share: 8, round: moved::round },
+    Theme { name: "used", share: 8, round: used::round },
+    Theme { name: "gaps", share: 9, round: gaps::round },
 ];
 
 /// Up to 4,096 slots; dear, so its turn comes by count.

@@ -38,8 +38,8 @@ const FACTS: [Fact; 26] = [
     }),
     ("a third write, U as it was", |seen| seen.third_write() && seen.after() == seen.before()),
     ("a third write, U raised", |seen| seen.third_write() && seen.after() > seen.before()),
-    ("Cleared after two records", |seen| seen.confirmed(2) && seen.job.written == 2),
-    ("Cleared after three records", |seen| seen.confirmed(2) && seen.job.written == 3),
+    ("Cleared after two records and the zeros", |seen| seen.confirmed(2) && seen.before_zeros() == 2),
+    ("Cleared after three records and the zeros", |seen| seen.confirmed(2) && seen.before_zeros() == 3),
     ("Cleared, U too high", |seen| seen.confirmed(2) && seen.before() > seen.highest()),
     ("Saved, U too high", |seen| seen.confirmed(1) && seen.before() > seen.highest()),
     ("Saved, a job that says it lowers U", |seen| seen.confirmed(1) && seen.job.lowers == 1),
@@ -104,6 +104,11 @@ impl Seen<'_> {
         self.stepped.is_some_and(|stepped| stepped.done == done)
     }
 
+    /// How many records a confirmed job wrote before it zeroed any.
+    fn before_zeros(&self) -> u64 {
+        self.job.written - self.job.old_count
+    }
+
     /// The highest slot with a scan in a file whose bootstrap is right.
     fn highest(&self) -> u64 {
         model::bootstrap(self.lent.file).map_or(0, |sizes| model::highest(self.lent.file, &sizes))
@@ -121,11 +126,13 @@ impl Seen<'_> {
         self.job.lowers > 1 && self.refused_but_not(Job { lowers: 0, ..self.job })
     }
 
-    /// A step of such a job refused because it has written one record more than it has to write, and for nothing else.
+    /// A step of such a job refused because it has written one record more than it has to write, the zeros not counted,
+    /// and for nothing else.
     fn one_too_many(&self, saves: u64, lowers: u64, writes: u64) -> bool {
         let job = self.job;
+        let writes = job.old_count.saturating_add(writes);
         (job.saves, job.lowers) == (saves, lowers)
-            && job.written == writes + 1
+            && job.written == writes.saturating_add(1)
             && self.refused_but_not(Job { written: writes, ..job })
     }
 }

@@ -26,8 +26,9 @@ fn agree(subject: &str, cases: u64) -> Tally {
 fn what_no_case_reached_is_named() {
     let missing = Tally::default().unreached();
     // refusals with 0, rules, Saved and Cleared, calls; then an old file's looks, changes and steps; then the answers of
-    // conversions, what they came upon, and the ways there and home; then what jobs did to U
-    assert_eq!(missing.len(), 20 + 6 + 2 + 14 + 13 + 3 + 1 + 2 * 10 + 19 + 4 + 26);
+    // conversions, what they came upon, and the ways there and home; then what jobs did to U;
+    // then what became of old runs and of gaps
+    assert_eq!(missing.len(), 20 + 6 + 2 + 15 + 13 + 3 + 1 + 2 * 10 + 19 + 4 + 26 + 42);
     let named = [
         "refusal 19",
         "a look at an old file, 18",
@@ -41,6 +42,10 @@ fn what_no_case_reached_is_named() {
         "a third write, U lowered to 0",
         "U lowered by a save",
         "14, a clear that says neither 0 nor 1",
+        "a record of the job's new scan zeroed",
+        "15 for the old run alone, in its last byte",
+        "14 for an old run whose end wraps into the room",
+        "no, of an old file",
     ];
     for name in named {
         assert!(missing.iter().any(|missing| missing == name), "{name} is not among {missing:?}");

@@ -38,6 +38,16 @@ pub struct Listed {
     pub scans: u64,
 }
 
+/// Yes or no.
+#[repr(C)]
+#[derive(Clone, Copy, Debug, PartialEq, Eq)]
+pub struct Answer {
+    /// Why there is neither.
+    pub why: Refusal,
+    /// 1 yes; 0 no, and where the call was refused.
+    pub yes: u64,
+}
+
 /// Bytes `from` to `to` of what was lent.
 #[allow(missing_docs)]
 #[repr(C)]
@@ -87,6 +97,10 @@ pub struct Job {
     pub written: u64,
     /// Of a clear: 1 where it writes record 1 a second time, to lower U.
     pub lowers: u64,
+    /// The first record of the scan that is replaced or cleared.
+    pub old_first: u64,
+    /// How many records that scan has; they are zeroed last. 0 where there is none.
+    pub old_count: u64,
     pub boot: [u8; 32],
     pub about: [u8; 54],
 }
@@ -169,6 +183,8 @@ impl Job {
         first: 0,
         written: 0,
         lowers: 0,
+        old_first: 0,
+        old_count: 0,
         boot: [0; 32],
         about: [0; 54],
     };

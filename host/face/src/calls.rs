@@ -1,9 +1,9 @@
 //! The calls as a table, so that the library, the stand-in and a wrong copy of
 //! it can be tried by the same comparison.
 
-use crate::answers::{Begun, Entry, Job, Listed, Opened, Refusal, Span, Stepped};
+use crate::answers::{Answer, Begun, Entry, Job, Listed, Opened, Refusal, Span, Stepped};
 
-/// The fourteen calls of the header, in its order. A slice is a pointer and then
+/// The fifteen calls of the header, in its order. A slice is a pointer and then
 /// a length; `about` is a pointer to 54 bytes.
 #[allow(missing_docs)]
 #[derive(Clone, Copy)]
@@ -22,4 +22,5 @@ pub struct Calls {
     pub step: unsafe extern "C" fn(*mut u8, usize, *const u8, usize, Job) -> Stepped,
     pub to_current: unsafe extern "C" fn(*const u8, usize, *mut u8, usize) -> Refusal,
     pub to_old: unsafe extern "C" fn(*const u8, usize, *mut u8, usize) -> Refusal,
+    pub gaps_zero: unsafe extern "C" fn(*const u8, usize) -> Answer,
 }

@@ -1,18 +1,19 @@
 //! The layout that the header gives these structs on every 64-bit Linux,
 //! checked when this crate is compiled.
 
-use crate::answers::{Begun, Entry, Job, Listed, Opened, Refusal, Span, Stepped};
+use crate::answers::{Answer, Begun, Entry, Job, Listed, Opened, Refusal, Span, Stepped};
 use std::mem::{offset_of, size_of};
 
 const _: () = {
     assert!(size_of::<Refusal>() == 8);
     assert!(size_of::<Opened>() == 88);
     assert!(size_of::<Listed>() == 16);
+    assert!(size_of::<Answer>() == 16);
     assert!(size_of::<Span>() == 24);
     assert!(size_of::<Entry>() == 88);
-    assert!(size_of::<Job>() == 144);
-    assert!(size_of::<Begun>() == 152);
-    assert!(size_of::<Stepped>() == 176);
+    assert!(size_of::<Job>() == 160);
+    assert!(size_of::<Begun>() == 168);
+    assert!(size_of::<Stepped>() == 192);
 
     assert!(offset_of!(Opened, kind) == 56);
     assert!(offset_of!(Opened, room) == 72);
@@ -26,7 +27,9 @@ const _: () = {
     assert!(offset_of!(Entry, single_value) == 76);
     assert!(offset_of!(Entry, double_value) == 80);
     assert!(offset_of!(Job, lowers) == 48);
-    assert!(offset_of!(Job, boot) == 56);
-    assert!(offset_of!(Job, about) == 88);
+    assert!(offset_of!(Job, old_first) == 56);
+    assert!(offset_of!(Job, old_count) == 64);
+    assert!(offset_of!(Job, boot) == 72);
+    assert!(offset_of!(Job, about) == 104);
     assert!(offset_of!(Stepped, job) == 32);
 };

@@ -79,6 +79,15 @@ fn lowest_that_shares(runs: &[Run]) -> Option<u64> {
     None
 }
 
+/// Of each record up to `top`, which no scan passes, whether it belongs "to no listed scan".
+pub(crate) fn unlisted(file: &[u8], sizes: &Sizes, top: u64) -> Vec<bool> {
+    let mut free = vec![true; top as usize + 1];
+    for (_, run) in listed(file, sizes) {
+        (run.first..=run.last).for_each(|record| free[record as usize] = false);
+    }
+    free
+}
+
 /// The scans of a file that opens: slot and run, in slot order.
 pub fn listed(file: &[u8], sizes: &Sizes) -> Vec<(u64, Run)> {
     (1..).zip(runs(file, sizes)).filter(|(_, run)| !run.is_empty()).collect()

@@ -1,7 +1,7 @@
 //! "A save, record by record": blank, save, keep, clear and step.
 
 use crate::bytes::{Write, word_bytes};
-use crate::index::{Run, highest, listed, open};
+use crate::index::{Run, highest, open, unlisted};
 use crate::look::occupied;
 use crate::refusal::{Answer, refuse};
 use crate::scan::{Purpose, rules};
@@ -27,6 +27,10 @@ pub struct Job {
     pub written: u64,
     /// Of a clear: 1 where it "gets a third write, record 1 again". Of a save 0 and 1 mean the same.
     pub lowers: u64,
+    /// The first record of "the scan replaced or cleared".
+    pub old_first: u64,
+    /// How many records that scan has: "0, 0 where the slot held nothing".
+    pub old_count: u64,
     /// The first 32 bytes as the job was begun on or last wrote them.
     pub boot: [u8; 32],
     /// The entry's bytes 8 to 61.
@@ -74,10 +78,7 @@ fn records_of(scan_len: u64, sizes: &Sizes) -> u64 {
 /// "the lowest record r >= N+1 where r to r+k-1 lie within the room and belong to no listed scan".
 fn lowest_place(file: &[u8], sizes: &Sizes, k: u64) -> Option<u64> {
     let room = room(file.len() as u64, sizes);
-    let mut free = vec![true; room as usize + 1];
-    for (_, run) in listed(file, sizes) {
-        (run.first..=run.last).for_each(|record| free[record as usize] = false);
-    }
+    let free = unlisted(file, sizes, room);
     (sizes.n + 1..=room).find(|r| (*r..r + k).all(|record| record <= room && free[record as usize]))
 }
 
@@ -108,22 +109,32 @@ fn begin_save(file: &[u8], sizes: &Sizes, slot: u64, scan: &[u8], about: &About)
     let Some(first) = lowest_place(file, sizes, records_of(scan_len, sizes)) else {
         return refuse(13);
     };
-    Ok(Job { saves: 1, slot, scan_len, first, about: *about, ..job_on(file) })
+    Ok(Job { saves: 1, slot, scan_len, first, about: *about, ..job_over(file, &Run::of(file, sizes, slot)) })
 }
 
 /// Begins a clear. "A clear of that highest slot gets a third write"; which slot that is, is asked here and not again.
 pub fn clear(file: &[u8], slot: u64) -> Answer<Job> {
     may_change(file)?;
-    let (sizes, _) = occupied(file, slot)?;
+    let (sizes, run) = occupied(file, slot)?;
     let lowers = if slot == highest(file, &sizes) { 1 } else { 0 };
-    Ok(Job { slot, lowers, ..job_on(file) })
+    Ok(Job { slot, lowers, ..job_over(file, &run) })
 }
 
-/// A job on this file with everything else zero.
-fn job_on(file: &[u8]) -> Job {
-    let boot = file[..32].try_into().unwrap();
-    let file_len = file.len() as u64;
-    Job { saves: 0, slot: 0, scan_len: 0, file_len, first: 0, written: 0, lowers: 0, boot, about: [0; 54] }
+/// A job on this file whose slot has this run, with everything else zero. "A job carries that old run".
+fn job_over(file: &[u8], old: &Run) -> Job {
+    Job {
+        saves: 0,
+        slot: 0,
+        scan_len: 0,
+        file_len: file.len() as u64,
+        first: 0,
+        written: 0,
+        lowers: 0,
+        old_first: old.first,
+        old_count: if old.is_empty() { 0 } else { old.last - old.first + 1 },
+        boot: file[..32].try_into().unwrap(),
+        about: [0; 54],
+    }
 }
 
 /// The sizes where job, file and scan agree; none of the sentence "A step checks 14 first" applies then, and the file
@@ -140,7 +151,7 @@ fn agree(file: &[u8], scan: &[u8], job: &Job) -> Option<Sizes> {
         return None;
     }
     // "a value other than 0 and 1 is 14 as for `saves`"
-    if job.lowers > 1 {
+    if job.lowers > 1 || !old_run_in_room(&sizes, job) {
         return None;
     }
     if !sizes.has_slot(job.slot) || job.written > turns(&sizes, job).len() as u64 {
@@ -164,17 +175,33 @@ enum Turn {
     Index,
     /// "record 1 again with U lowered to what is left".
     Lowered,
+    /// Zeros over this record "of the scan replaced or cleared".
+    Zeros(u64),
 }
 
 /// All that the job has to write, in order: the k data records, record 1 and the index record; of a clear the last two,
-/// and where it lowers U "a third write".
+/// and where it lowers U "a third write"; then "zeros over each record of the scan replaced or cleared, lowest first".
 fn turns(sizes: &Sizes, job: &Job) -> Vec<Turn> {
     let mut turns: Vec<Turn> = (0..data_records(sizes, job)).map(Turn::Data).collect();
     turns.extend([Turn::Bootstrap, Turn::Index]);
     if job.saves == 0 && job.lowers == 1 {
         turns.push(Turn::Lowered);
     }
+    turns.extend(old_records(job).map(Turn::Zeros));
     turns
+}
+
+/// The old run's records, lowest first; of a job whose old run lies in the room.
+fn old_records(job: &Job) -> impl Iterator<Item = u64> {
+    (0..job.old_count).map(|i| job.old_first + i)
+}
+
+/// Whether no record of the old run "lies outside N+1 to the room". "With old_count 0, old_first is not looked at", and
+/// "sums of forged numbers must not wrap", so they are formed where they cannot.
+fn old_run_in_room(sizes: &Sizes, job: &Job) -> bool {
+    let room = u128::from(room(job.file_len, sizes));
+    let after_last = u128::from(job.old_first) + u128::from(job.old_count);
+    job.old_count == 0 || (sizes.n < job.old_first && after_last <= room + 1)
 }
 
 /// k, or 0 for a clear.
@@ -205,6 +232,7 @@ pub fn step(file: &[u8], scan: &[u8], job: &Job) -> Answer<Stepped> {
         Turn::Bootstrap => wrote_words(&renewed(file, &sizes, job), next),
         Turn::Index => wrote(sizes.home_record(job.slot), sizes.home(job.slot), entry_bytes(&sizes, job), next),
         Turn::Lowered => wrote_words(&lowered(file, &sizes), next),
+        Turn::Zeros(record) => wrote(record, sizes.record_at(record), vec![0; sizes.l as usize], next),
     })
 }
 
@@ -257,15 +285,14 @@ fn entry_bytes(sizes: &Sizes, job: &Job) -> Vec<u8> {
     entry
 }
 
-/// The step after the last write: judges the file, then compares.
+/// The step after the last write: judges the file, then compares, and "also requires the zeros, else 15".
 fn confirm(file: &[u8], scan: &[u8], job: &Job) -> Answer<Stepped> {
     let sizes = open(file)?;
     let entry_stands = sizes.entry(file, job.slot) == entry_bytes(&sizes, job);
-    let records_stand = (0..data_records(&sizes, job)).all(|i| {
-        let at = sizes.record_at(job.first + i);
-        file[at..at + sizes.l as usize] == padded(scan, &sizes, i)
-    });
-    if !entry_stands || !records_stand {
+    let records_stand =
+        (0..data_records(&sizes, job)).all(|i| sizes.record(file, job.first + i) == padded(scan, &sizes, i));
+    let old_is_zeros = old_records(job).all(|record| sizes.record(file, record).iter().all(|byte| *byte == 0));
+    if !entry_stands || !records_stand || !old_is_zeros {
         return refuse(15);
     }
     let done = if job.saves == 1 { Done::Saved } else { Done::Cleared };

@@ -20,7 +20,7 @@ pub use bytes::Write;
 pub use convert::{Hindrance, hindrances, to_current, to_old};
 pub use index::{Run, highest, listed, open};
 pub use job::{About, Done, Job, Stepped, blank, clear, keep, save, step};
-pub use look::{Entry, Kind, class, data, entry, list, read, show};
+pub use look::{Entry, Kind, class, data, entry, gaps_zero, list, read, show};
 pub use refusal::{Answer, Refusal};
 pub use scan::{Purpose, Shape, rules, whole};
 pub use sizes::{Form, Sizes, bootstrap, room};

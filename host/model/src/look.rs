@@ -1,7 +1,7 @@
-//! The calls that only look: list, entry, show, read, class, data.
+//! The calls that only look: list, entry, show, read, class, data, and the question whether the gaps are zeros.
 
 use crate::bytes::{double_word, half, word};
-use crate::index::{Run, listed, open};
+use crate::index::{Run, listed, open, unlisted};
 use crate::refusal::{Answer, refuse};
 use crate::scan::{Purpose, rules};
 use crate::sizes::{Form, Sizes};
@@ -128,6 +128,16 @@ pub fn read(file: &[u8], slot: u64) -> Answer<(u64, u64)> {
     let (from, to) = show(file, slot)?;
     let shape = rules(&file[from as usize..to as usize], Purpose::Reading)?;
     Ok((from, from + shape.head + shape.data))
+}
+
+/// "a yes or no whether every data record in no listed scan is all zeros", in both forms; "Refusals: open's own for that
+/// question".
+pub fn gaps_zero(file: &[u8]) -> Answer<bool> {
+    let sizes = open(file)?;
+    let last = sizes.n + sizes.d;
+    let free = unlisted(file, &sizes, last);
+    let mut gaps = (sizes.n + 1..=last).filter(|record| free[*record as usize]);
+    Ok(gaps.all(|record| sizes.record(file, record).iter().all(|byte| *byte == 0)))
 }
 
 /// "Asked of a run of bytes, a class gives 11 where rules 1 to 5 are broken, then

@@ -80,6 +80,12 @@ impl Sizes {
         ((record - 1) * self.l) as usize
     }
 
+    /// The L bytes of a record.
+    pub(crate) fn record<'a>(&self, file: &'a [u8], record: u64) -> &'a [u8] {
+        let at = self.record_at(record);
+        &file[at..at + self.l as usize]
+    }
+
     /// The offset in the file at which a slot's entry begins.
     pub(crate) fn home(&self, slot: u64) -> usize {
         self.record_at(self.home_record(slot)) + self.home_place(slot) as usize

@@ -165,6 +165,8 @@ fn a_step_on_an_old_file_is_14() {
         first: 4,
         written: 0,
         lowers: 0,
+        old_first: 4,
+        old_count: 1,
         boot: file[..32].try_into().unwrap(),
         about: [0; 54],
     };

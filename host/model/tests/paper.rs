@@ -82,7 +82,7 @@ fn the_run() {
     let mut file = blanked(4_096, 3, 512, 64);
     assert_eq!(saved(&mut file, 1, &scan(1_000, 3)), [4, 5, 1, 2]);
     assert_eq!(saved(&mut file, 9, &scan(512, 3)), [6, 1, 3]);
-    assert_eq!(saved(&mut file, 1, &scan(1_000, 3)), [7, 8, 1, 2]);
+    assert_eq!(saved(&mut file, 1, &scan(1_000, 3)), [7, 8, 1, 2, 4, 5]);
     assert_eq!(list(&file), [(1, 7, 8), (9, 6, 6)]);
     assert_eq!(open(&file).unwrap().u, 9);
     assert_eq!(saved(&mut file, 2, &scan(1_024, 3)), [4, 5, 1, 2]);

@@ -74,25 +74,26 @@ fn home(slot: usize) -> usize {
 fn a_clear_of_the_highest_slot_lowers_u_to_what_is_left() {
     let mut file = with(&[1, 2, 9]);
     assert_eq!(clear(&file, 9).unwrap().lowers, 1);
-    assert_eq!(cleared(&mut file, 9), [(1, 9), (3, 9), (1, 2)]);
-    assert_eq!(cleared(&mut file, 2), [(1, 2), (2, 2), (1, 1)]);
-    assert_eq!(cleared(&mut file, 1), [(1, 1), (2, 1), (1, 0)]);
+    assert_eq!(cleared(&mut file, 9), [(1, 9), (3, 9), (1, 2), (6, 2)]);
+    assert_eq!(cleared(&mut file, 2), [(1, 2), (2, 2), (1, 1), (5, 1)]);
+    assert_eq!(cleared(&mut file, 1), [(1, 1), (2, 1), (1, 0), (4, 0)]);
     assert_eq!((open(&file).unwrap().u, listed(&file, &open(&file).unwrap()).len()), (0, 0));
 }
 
 #[test]
-fn a_clear_of_another_slot_writes_two_records_and_leaves_u() {
+fn a_clear_of_another_slot_writes_record_1_once_and_leaves_u() {
     let mut file = with(&[1, 5, 9]);
     assert_eq!(clear(&file, 5).unwrap().lowers, 0);
-    assert_eq!(cleared(&mut file, 5), [(1, 9), (2, 9)]);
+    assert_eq!(cleared(&mut file, 5), [(1, 9), (2, 9), (5, 9)]);
     // the gap at 5 is passed over when 9 goes
-    assert_eq!(cleared(&mut file, 9), [(1, 9), (3, 9), (1, 1)]);
+    assert_eq!(cleared(&mut file, 9), [(1, 9), (3, 9), (1, 1), (6, 1)]);
 }
 
 #[test]
-fn such_a_clear_is_confirmed_at_step_4_and_another_at_step_3() {
+fn such_a_clear_is_confirmed_one_step_later_than_another() {
     let mut file = with(&[3, 7]);
-    for (slot, confirming) in [(3, 3), (7, 4)] {
+    // steps 3 and 4, and one for the zeros over the scan's only record
+    for (slot, confirming) in [(3, 4), (7, 5)] {
         let mut job = clear(&file, slot).unwrap();
         for number in 1..confirming {
             assert!(matches!(stepped(&mut file, &[], &mut job), Done::Wrote(_)), "step {number} of slot {slot}");
@@ -130,11 +131,11 @@ fn a_u_that_is_too_high_opens_and_is_lowered_by_the_next_job() {
     let mut high = with(&[1, 2]);
     put(&mut high, 16, 16);
     assert_eq!(open(&high).unwrap().u, 16);
-    assert_eq!(saved(&mut high.clone(), 2), [(6, 16), (1, 2), (2, 2)]);
+    assert_eq!(saved(&mut high.clone(), 2), [(6, 16), (1, 2), (2, 2), (5, 2)]);
     assert_eq!(saved(&mut high.clone(), 6), [(6, 16), (1, 6), (2, 6)]);
-    assert_eq!(cleared(&mut high.clone(), 1), [(1, 2), (2, 2)]);
+    assert_eq!(cleared(&mut high.clone(), 1), [(1, 2), (2, 2), (4, 2)]);
     // which slot is the highest does not depend on U
-    assert_eq!(cleared(&mut high, 2), [(1, 2), (2, 2), (1, 1)]);
+    assert_eq!(cleared(&mut high, 2), [(1, 2), (2, 2), (1, 1), (5, 1)]);
     let kept = keep(&high, &scan(512, 3), &[0; 54]).unwrap();
     assert_eq!((kept.slot, kept.lowers), (2, 0));
 }
@@ -163,8 +164,8 @@ fn the_papers_run_with_its_slots_cleared_again() {
     }
     let list: Vec<_> = listed(&file, &open(&file).unwrap()).iter().map(|(slot, run)| (*slot, run.first)).collect();
     assert_eq!(list, [(1, 7), (9, 6)]);
-    assert_eq!(cleared(&mut file, 9), [(1, 9), (3, 9), (1, 1)]);
-    assert_eq!(cleared(&mut file, 1), [(1, 1), (2, 1), (1, 0)]);
+    assert_eq!(cleared(&mut file, 9), [(1, 9), (3, 9), (1, 1), (6, 1)]);
+    assert_eq!(cleared(&mut file, 1), [(1, 1), (2, 1), (1, 0), (7, 0), (8, 0)]);
 }
 
 #[test]
@@ -188,9 +189,9 @@ fn a_slot_with_a_scan_is_any_entry_that_is_not_empty_also_above_u() {
 fn a_clear_made_by_hand_does_what_its_lowers_says() {
     let file = with(&[1, 2, 9]);
     let clear_of = |slot, lowers| Job { lowers, ..clear(&file, slot).unwrap() };
-    assert_eq!(ran(&mut file.clone(), &[], clear_of(2, 1)), [(1, 9), (2, 9), (1, 9)]);
-    assert_eq!(ran(&mut file.clone(), &[], clear_of(9, 0)), [(1, 9), (3, 9)]);
-    for (lowers, written) in [(0, 3), (1, 4), (2, 0), (u64::MAX, 0), (2, 2)] {
+    assert_eq!(ran(&mut file.clone(), &[], clear_of(2, 1)), [(1, 9), (2, 9), (1, 9), (5, 9)]);
+    assert_eq!(ran(&mut file.clone(), &[], clear_of(9, 0)), [(1, 9), (3, 9), (6, 9)]);
+    for (lowers, written) in [(0, 4), (1, 5), (2, 0), (u64::MAX, 0), (2, 2)] {
         let job = Job { written, ..clear_of(9, lowers) };
         assert_eq!(step(&file, &[], &job).unwrap_err().number, 14, "lowers {lowers}, written {written}");
     }
@@ -204,10 +205,10 @@ fn a_save_does_not_tell_0_and_1_apart_and_hands_back_what_it_was_lent() {
     let (mut one, mut other) = (file.clone(), file.clone());
     assert_eq!(ran(&mut one, &scan, job), ran(&mut other, &scan, Job { lowers: 1, ..job }));
     assert_eq!(one, other);
-    let lent = Job { lowers: 1, written: 4, boot: one[..32].try_into().unwrap(), ..job };
+    let lent = Job { lowers: 1, written: 5, boot: one[..32].try_into().unwrap(), ..job };
     let confirmed = step(&one, &scan, &lent).unwrap();
     assert_eq!((confirmed.done, confirmed.job), (Done::Saved, lent));
-    for job in [Job { lowers: 1, written: 5, ..lent }, Job { lowers: 2, ..lent }] {
+    for job in [Job { lowers: 1, written: 6, ..lent }, Job { lowers: 2, ..lent }] {
         assert_eq!(step(&one, &scan, &job).unwrap_err().number, 14);
     }
 }

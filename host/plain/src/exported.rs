@@ -1,9 +1,9 @@
 //! The calls with the C face: pointers to slices, answers to structs of numbers.
 
-use crate::calls::{convert, look, store};
+use crate::calls::{convert, gaps, look, store};
 use crate::ground::line::or;
 use crate::rules::boot::Answer;
-use face::{Begun, Calls, Entry, Job, Listed, Opened, Refusal, Span, Stepped};
+use face::{Answer as YesOrNo, Begun, Calls, Entry, Job, Listed, Opened, Refusal, Span, Stepped};
 use std::slice::{from_raw_parts, from_raw_parts_mut};
 
 /// The table of one copy.
@@ -23,6 +23,7 @@ pub fn calls<const X: u32>() -> Calls {
         step: step::<X>,
         to_current: to_current::<X>,
         to_old: to_old::<X>,
+        gaps_zero: gaps_zero::<X>,
     }
 }
 
@@ -145,4 +146,11 @@ unsafe extern "C" fn to_current<const X: u32>(
 
 unsafe extern "C" fn to_old<const X: u32>(file: *const u8, file_len: usize, out: *mut u8, out_len: usize) -> Refusal {
     refusal(convert::to_old::<X>(unsafe { lent(file, file_len) }, unsafe { lent_mut(out, out_len) }))
+}
+
+unsafe extern "C" fn gaps_zero<const X: u32>(file: *const u8, file_len: usize) -> YesOrNo {
+    match gaps::gaps_zero::<X>(unsafe { lent(file, file_len) }) {
+        Ok(yes) => YesOrNo { why: Refusal::NONE, yes: u64::from(yes) },
+        Err(why) => YesOrNo { why, yes: or::<X, _>(270, 0, 1) },
+    }
 }

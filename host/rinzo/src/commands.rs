@@ -1,4 +1,5 @@
-//! What each command does. `run` knows them all; they know the floors below, `demo` also those that it shows.
+//! What each command does. `run` knows them all; they know the floors below, `demo` also those that it shows;
+//! `second` is what `convert` and `sweep` share.
 
 mod about;
 mod blank;
@@ -15,6 +16,8 @@ mod form;
 mod install;
 mod list;
 mod pages;
+mod second;
+mod sweep;
 
 use crate::say::failure::Failure;
 use crate::say::out::Out;
@@ -39,5 +42,6 @@ pub fn run(verb: Verb, args: &Args, out: &Out) -> Result<(), Failure> {
         Verb::Read => bytes::read(args, out),
         Verb::Save => change::save(args, out),
         Verb::Show => bytes::show(args, out),
+        Verb::Sweep => sweep::run(args, out),
     }
 }

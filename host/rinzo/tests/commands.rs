@@ -25,7 +25,7 @@ fn the_papers_run() {
     assert_eq!(records(&saved), [4, 5, 1, 2]);
     assert!(saved.ends_with("saved: slot 1 first 4 last 5\n"), "{saved}");
     assert_eq!(records(&wrote(&folder, &["save", "f.sdd", "9", &short])), [6, 1, 3]);
-    assert_eq!(records(&wrote(&folder, &["save", "f.sdd", "1", &again, "--replace"])), [7, 8, 1, 2]);
+    assert_eq!(records(&wrote(&folder, &["save", "f.sdd", "1", &again, "--replace"])), [7, 8, 1, 2, 4, 5]);
     assert_eq!(wrote(&folder, &["list", "f.sdd"]), "slots 16 used 9 scans 2\n1 7 8\n9 6 6\n");
 
     let two = scan_file(&folder, 1_024, 4);
@@ -46,17 +46,25 @@ fn a_clear_of_the_highest_slot_writes_record_1_twice() {
     let counter = || wrote(&folder, &["check", "f.sdd"]).split("counter ").nth(1).unwrap().chars().next();
     assert_eq!(counter(), Some('3'));
     let cleared = wrote(&folder, &["clear", "f.sdd", "9", "--yes"]);
-    let lines = "record 1 written (1 of 3)\nrecord 3 written (2 of 3)\nrecord 1 written (3 of 3)\n";
-    assert!(cleared.starts_with(lines) && cleared.contains("\ncleared: slot 9, held "), "{cleared}");
+    let lines = "record 1 written (1 of 4)\nrecord 3 written (2 of 4)\nrecord 1 written (3 of 4)\n";
+    let lines = lines.to_string() + "record 6 written with zeros over the old scan (4 of 4)\n";
+    assert!(cleared.starts_with(&lines) && cleared.contains("\ncleared: slot 9, held "), "{cleared}");
     assert_eq!(wrote(&folder, &["list", "f.sdd"]), "slots 16 used 3 scans 2\n1 4 4\n3 5 5\n");
     // the counter goes up once
     assert_eq!(counter(), Some('4'));
-    // another slot: two records, and U stays
-    assert_eq!(records(&wrote(&folder, &["clear", "f.sdd", "1", "--yes"])), [1, 2]);
+    // another slot: two records and the zeros, and U stays
+    assert_eq!(records(&wrote(&folder, &["clear", "f.sdd", "1", "--yes"])), [1, 2, 4]);
     assert_eq!(wrote(&folder, &["list", "f.sdd"]), "slots 16 used 3 scans 1\n3 5 5\n");
     // the only one
     let cleared = wrote(&folder, &["clear", "f.sdd", "3", "--yes", "--json"]);
-    assert!(cleared.contains("\n{\"event\":\"record\",\"record\":1,\"written\":3,\"of\":3}\n"), "{cleared}");
+    assert!(
+        cleared.contains("\n{\"event\":\"record\",\"record\":1,\"written\":3,\"of\":4,\"zeros\":false}\n"),
+        "{cleared}"
+    );
+    assert!(
+        cleared.contains("\n{\"event\":\"record\",\"record\":5,\"written\":4,\"of\":4,\"zeros\":true}\n"),
+        "{cleared}"
+    );
     assert_eq!(wrote(&folder, &["list", "f.sdd"]), "slots 16 used 0 scans 0\n");
     assert_eq!(counter(), Some('6'));
 }
@@ -294,7 +302,7 @@ fn programs_get_json() {
     let name = scan_file(&folder, 512, 1);
     let saved = wrote(&folder, &["save", "f.sdd", "3", &name, "--json"]);
     let lines: Vec<&str> = saved.lines().collect();
-    assert_eq!(lines[0], "{\"event\":\"record\",\"record\":4,\"written\":1,\"of\":3}");
+    assert_eq!(lines[0], "{\"event\":\"record\",\"record\":4,\"written\":1,\"of\":3,\"zeros\":false}");
     assert_eq!(lines[4], "{\"event\":\"saved\",\"slot\":3,\"first\":4,\"last\":4}");
     assert_eq!(
         wrote(&folder, &["list", "f.sdd", "--json"]),
@@ -321,7 +329,7 @@ fn help_is_everywhere() {
     let folder = folder("help");
     assert!(wrote(&folder, &["--help"]).contains("usage: rinzo COMMAND"));
     let commands = ["blank", "check", "list", "entry", "classes", "show", "read", "save", "keep", "clear", "demo"];
-    for command in commands.into_iter().chain(["completion", "manual", "install", "convert"]) {
+    for command in commands.into_iter().chain(["completion", "manual", "install", "convert", "sweep"]) {
         for words in [&[command, "--help"][..], &["help", command], &[command, "x", "-h"]] {
             assert!(wrote(&folder, words).starts_with(&format!("usage: rinzo {command} ")));
         }
@@ -337,7 +345,7 @@ fn help_groups_the_commands() {
         ("change a file:", &["save", "keep", "clear"]),
         (
             "make a file, and what goes with the program:",
-            &["blank", "convert", "demo", "install", "completion", "manual"],
+            &["blank", "convert", "sweep", "demo", "install", "completion", "manual"],
         ),
     ] {
         let group = groups.iter().find(|group| group.starts_with(heading)).unwrap_or_else(|| panic!("{help}"));

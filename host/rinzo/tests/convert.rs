@@ -186,7 +186,7 @@ fn it_is_never_done_in_place() {
             let words = [&["convert", "old.sdd", "--to", "current", "--out", out], force].concat();
             let (status, said) = refused(&folder, &words);
             assert_eq!(status, 73, "{said}");
-            let part = format!("{out} is the file that is converted, which is never done in place: give another name");
+            let part = format!("{out} is the file that it is made of, which is never done in place: give another name");
             assert!(said.contains(&part), "{said}");
             assert!(fs::read(folder.join("old.sdd")).unwrap() == old, "{out}");
             assert_eq!(names(&folder), before);

@@ -108,7 +108,7 @@ fn limited(folder: &Path, bytes: u64, group: Option<&Group>, words: &[&str]) -> 
 }
 
 #[test]
-fn a_file_larger_than_memory_is_opened_listed_saved_to_and_converted() {
+fn a_file_larger_than_memory_is_opened_listed_saved_to_converted_and_swept() {
     let folder = folder("larger_than_memory");
     let [_, large] = small_and_large(&folder);
     let allowed = 16 * MIB;
@@ -122,12 +122,34 @@ fn a_file_larger_than_memory_is_opened_listed_saved_to_and_converted() {
         &["save", large, "9", &scan],
         &["show", large, "9"],
         &["convert", large, "--to", "old", "--out", "old.sdd"],
+        &["sweep", large, "swept.sdd"],
     ] {
         let cost = cost::of(&mut limited(&folder, allowed, group.as_ref(), words));
         assert!(cost.peak < allowed, "{words:?}: {cost:?}");
     }
     assert!(wrote(&folder, &["list", large]).ends_with("\n9 136 253\n"));
     assert!(wrote(&folder, &["list", "old.sdd"]).ends_with("\n9 136 253\n"));
+    assert!(wrote(&folder, &["list", "swept.sdd"]).ends_with("\n9 136 253\n"));
+    fs::remove_dir_all(&folder).unwrap();
+}
+
+/// A file of 488 MiB of which all is one gap: the question is asked of all of it, and costs no more memory for that.
+#[test]
+fn a_gap_larger_than_memory_is_looked_into() {
+    let folder = folder("large_gap");
+    wrote(&folder, &["blank", "f.sdd", "--n", "3", "--l", "512", "--room", "1000000"]);
+    let file = fs::OpenOptions::new().write(true).open(folder.join("f.sdd")).unwrap();
+    file.write_all_at(&999_997u32.to_be_bytes(), 4).unwrap();
+    for (records, zero) in [(&[][..], true), (&[4, 500_000, 1_000_000], false)] {
+        for record in records {
+            file.write_all_at(&[1], record * 512 - 1).unwrap();
+        }
+        let words = ["check", "f.sdd", "--json"];
+        let cost = cost::of(rinzo(&folder).args(words));
+        assert!(cost.peak <= 16 * MIB, "{cost:?}");
+        let wanted = format!(",\"gaps-zero\":{zero},\"records-not-zero\":{},", records.len());
+        assert!(wrote(&folder, &words).contains(&wanted));
+    }
     fs::remove_dir_all(&folder).unwrap();
 }
 

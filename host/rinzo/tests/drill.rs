@@ -4,11 +4,12 @@
 //! is written the slot shows what it did before; from then on the new scan, or
 //! nothing after a clear. Every other slot always shows what it did. The used
 //! number U is never below the highest slot with a scan, and is that slot once
-//! a job is confirmed.
+//! a job is confirmed. Data records of no scan are zeros after confirmed jobs;
+//! after a cut the question of them is answered by what their bytes are.
 
 mod common;
 
-use common::{folder, held, paper_file, refused, rinzo, run, scan_file, wrote};
+use common::{failing, folder, held, paper_file, refused, rinzo, run, said, scan_file, shim, wrote};
 use sample::scan;
 use std::fs;
 use std::os::unix::process::{CommandExt, ExitStatusExt};
@@ -17,7 +18,7 @@ use std::process::Stdio;
 use std::time::Duration;
 
 /// A job to be cut: its words, its slot, the records it writes, how many of them up to its index record, and what the
-/// slot shows from that one on.
+/// slot shows from that one on. The last ones are zeros over the scan that the slot had.
 struct Cut {
     words: Vec<String>,
     slot: u64,
@@ -27,17 +28,23 @@ struct Cut {
 }
 
 impl Cut {
-    /// A save or keep, whose index record is its last.
+    /// A save or keep to an empty slot, whose index record is its last.
     fn save(words: &[&str], slot: u64, len: usize, mark: u8) -> Cut {
         let after = padded(len, mark);
         let writes = after.len() as u64 / 512 + 2;
         Cut { words: owned(words), slot, writes, reached: writes, after: Some(after) }
     }
 
-    /// A clear, whose index record is its second; that of the highest slot has a third, record 1 with U lowered.
-    fn clear(slot: u64, writes: u64) -> Cut {
+    /// The same over a scan of so many records.
+    fn over(self, old: u64) -> Cut {
+        Cut { writes: self.writes + old, ..self }
+    }
+
+    /// A clear of a scan of so many records. Its index record is its second; that of the highest slot has record 1 with U
+    /// lowered then.
+    fn clear(slot: u64, lowers: bool, old: u64) -> Cut {
         let words = owned(&["clear", "f.sdd", &slot.to_string(), "--yes"]);
-        Cut { words, slot, writes, reached: 2, after: None }
+        Cut { words, slot, writes: 2 + u64::from(lowers) + old, reached: 2, after: None }
     }
 
     fn words(&self) -> Vec<&str> {
@@ -73,10 +80,10 @@ fn busy_cuts(folder: &Path) -> Vec<Cut> {
     let (one, two, three) = (scan_file(folder, 1_200, 5), scan_file(folder, 2_048, 6), scan_file(folder, 1_200, 7));
     vec![
         Cut::save(&["save", "f.sdd", "16", &one], 16, 1_200, 5),
-        Cut::save(&["save", "f.sdd", "1", &two, "--replace"], 1, 2_048, 6),
+        Cut::save(&["save", "f.sdd", "1", &two, "--replace"], 1, 2_048, 6).over(2),
         Cut::save(&["keep", "f.sdd", &three], 3, 1_200, 7),
-        Cut::clear(9, 3),
-        Cut::clear(2, 2),
+        Cut::clear(9, true, 3),
+        Cut::clear(2, false, 1),
     ]
 }
 
@@ -89,19 +96,20 @@ fn lone_file(folder: &Path) {
 /// The jobs that are cut on it: a clear that leaves no scan, and a save below the highest slot.
 fn lone_cuts(folder: &Path) -> Vec<Cut> {
     let two = scan_file(folder, 512, 2);
-    vec![Cut::clear(12, 3), Cut::save(&["save", "f.sdd", "3", &two], 3, 512, 2)]
+    vec![Cut::clear(12, true, 2), Cut::save(&["save", "f.sdd", "3", &two], 3, 512, 2)]
 }
 
-/// A file whose U is 9 and whose highest scan is in slot 2: a clear was cut before it lowered U.
+/// A file whose U is 9 and whose highest scan is in slot 2, and that has three records of slot 9's scan left: a clear was
+/// cut before it lowered U.
 fn high_file(folder: &Path) {
     busy_file(folder);
-    Cut::clear(9, 3).stop_after(folder, 2);
+    Cut::clear(9, true, 3).stop_after(folder, 2);
 }
 
 /// The jobs that are cut on it: the highest slot is 2 for them, whatever U says.
 fn high_cuts(folder: &Path) -> Vec<Cut> {
     let two = scan_file(folder, 512, 2);
-    vec![Cut::clear(2, 3), Cut::clear(1, 2), Cut::save(&["keep", "f.sdd", &two, "--again"], 3, 512, 2)]
+    vec![Cut::clear(2, true, 1), Cut::clear(1, false, 2), Cut::save(&["keep", "f.sdd", &two, "--again"], 3, 512, 2)]
 }
 
 /// The files of the drill, each with the jobs that are cut on it.
@@ -170,6 +178,28 @@ fn demand_three(folder: &Path, cut: &Cut, written: u64, before: &[Shown]) {
     assert!(used >= highest, "{:?} cut after {written} records: U is {used}, slot {highest} has a scan", cut.words);
     let said = wrote(folder, &["check", "f.sdd"]).contains("sets it right");
     assert_eq!(said, used > highest, "{:?} cut after {written} records: U is {used}", cut.words);
+    left(folder);
+}
+
+/// Which records of the file have bytes and belong to no scan, by its bytes and its list alone: N+1 to N+D are asked about.
+fn left_in(folder: &Path, name: &str) -> Vec<usize> {
+    let bytes = fs::read(folder.join(name)).unwrap();
+    let word = |at: usize| u32::from_be_bytes(bytes[at..at + 4].try_into().unwrap()) as usize;
+    let list = wrote(folder, &["list", name]);
+    let runs: Vec<Vec<usize>> =
+        list.lines().skip(1).map(|line| line.split(' ').map(|number| number.parse().unwrap()).collect()).collect();
+    let is_free = |record: &usize| !runs.iter().any(|run| (run[1]..=run[2]).contains(record));
+    let is_zeros = |record: &usize| bytes[(record - 1) * 512..record * 512].iter().all(|byte| *byte == 0);
+    (word(0) + 1..=word(0) + word(4)).filter(is_free).filter(|record| !is_zeros(record)).collect()
+}
+
+/// How many there are. The program has to say that number, and no more than zeros where it is 0.
+fn left(folder: &Path) -> usize {
+    let left = left_in(folder, "f.sdd").len();
+    let json = wrote(folder, &["check", "f.sdd", "--json"]);
+    let wanted = format!(",\"gaps-zero\":{},\"records-not-zero\":{left},", left == 0);
+    assert!(json.contains(&wanted), "{left} records are left: {json}");
+    left
 }
 
 /// Holds U to the highest slot with a scan, or 0: so it is after every confirmed job.
@@ -206,6 +236,8 @@ fn a_job_that_is_not_cut() {
             assert_eq!(records.len() as u64, cut.writes, "{:?}: {printed}", cut.words);
             demand_three(&folder, &cut, cut.writes, &before);
             used_is_highest(&folder, &cut.words());
+            // jobs alone that were confirmed leave nothing; what an earlier cut has left they do not take away
+            assert!(ground == "high" || left(&folder) == 0, "{:?}", cut.words);
         }
     }
 }
@@ -237,7 +269,79 @@ fn a_cut_job_can_be_done_again() {
         wrote(&folder, &cut.words());
         assert_eq!(shown(&folder)[cut.slot as usize - 1], cut.after);
         used_is_highest(&folder, &cut.words());
+        // what was written of the scan was written over
+        assert_eq!(left(&folder), 0, "{:?}", cut.words);
     }
+}
+
+/// How many records are left after 0, 1, 2 .. records of a job on a file of the drill.
+fn left_along(name: &str, make: fn(&Path), cuts: fn(&Path) -> Vec<Cut>, which: usize) -> Vec<usize> {
+    let folder = folder(&format!("left_{name}_{which}"));
+    make(&folder);
+    let (file, cut) = (fs::read(folder.join("f.sdd")).unwrap(), cuts(&folder).remove(which));
+    let after = |written| {
+        fs::write(folder.join("f.sdd"), &file).unwrap();
+        cut.stop_after(&folder, written);
+        left(&folder)
+    };
+    (0..=cut.writes).map(after).collect()
+}
+
+#[test]
+fn what_is_left_along_a_job() {
+    // a scan of three records, of which two lie in the data section as it was: the third is asked about once record 1
+    // says that it is one; with the index record they are the scan's
+    assert_eq!(left_along("busy", busy_file, busy_cuts, 0), [0, 1, 2, 2, 3, 0]);
+    assert_eq!(left_along("busy", busy_file, busy_cuts, 2), [0, 1, 2, 2, 3, 0]);
+    // over a scan of two: these are left from the index record on, and become zeros one by one
+    assert_eq!(left_along("busy", busy_file, busy_cuts, 1), [0, 1, 2, 2, 2, 4, 2, 1, 0]);
+    // clears: of three records with U lowered before the zeros, and of one
+    assert_eq!(left_along("busy", busy_file, busy_cuts, 3), [0, 0, 3, 3, 2, 1, 0]);
+    assert_eq!(left_along("busy", busy_file, busy_cuts, 4), [0, 0, 1, 0]);
+    assert_eq!(left_along("lone", lone_file, lone_cuts, 0), [0, 0, 2, 2, 1, 0]);
+    // what another cut has left stays, but where a scan is written over it
+    assert_eq!(left_along("high", high_file, high_cuts, 0), [3, 3, 4, 4, 3]);
+    assert_eq!(left_along("high", high_file, high_cuts, 1), [3, 3, 5, 4, 3]);
+    assert_eq!(left_along("high", high_file, high_cuts, 2), [3, 3, 3, 2]);
+}
+
+#[test]
+fn no_later_job_removes_what_is_left_and_a_sweep_does() {
+    let folder = folder("left_stays");
+    busy_file(&folder);
+    let cut = busy_cuts(&folder).remove(1);
+    cut.stop_after(&folder, cut.reached);
+    assert_eq!(left_in(&folder, "f.sdd"), [4, 5]);
+    wrote(&folder, &cut.words());
+    assert_eq!(left_in(&folder, "f.sdd"), [4, 5]);
+    wrote(&folder, &["clear", "f.sdd", "1", "--yes"]);
+    assert_eq!(left_in(&folder, "f.sdd"), [4, 5]);
+    wrote(&folder, &["sweep", "f.sdd", "g.sdd"]);
+    assert!(left_in(&folder, "g.sdd").is_empty() && left(&folder) == 2);
+}
+
+#[test]
+fn what_a_cut_leaves_is_swept() {
+    each_cut(
+        "swept",
+        |folder, cut, written| cut.stop_after(folder, written),
+        |folder, cut, written, _| {
+            let (mut wanted, left) = (fs::read(folder.join("f.sdd")).unwrap(), left_in(folder, "f.sdd"));
+            let said = wrote(folder, &["sweep", "f.sdd", "g.sdd", "--force", "--json"]);
+            assert!(said.contains(&format!("\"records-zeroed\":{},", left.len())), "{said}");
+            for record in left {
+                wanted[(record - 1) * 512..record * 512].fill(0);
+            }
+            // and all past the data section, where a save that is cut before its record 1 leaves its scan
+            let word = |at: usize| u32::from_be_bytes(wanted[at..at + 4].try_into().unwrap()) as usize;
+            let end = (word(0) + word(4)) * 512;
+            wanted[end..].fill(0);
+            let swept = fs::read(folder.join("g.sdd")).unwrap();
+            assert!(swept == wanted, "{:?} cut after {written} records, and swept", cut.words);
+            let json = wrote(folder, &["check", "g.sdd", "--json"]);
+            assert!(json.contains(",\"gaps-zero\":true,\"records-not-zero\":0,"), "{json}");
+        },
+    );
 }
 
 /// U after 0, 1, 2 .. records of a job on a file of the drill.
@@ -257,13 +361,13 @@ fn used_along(name: &str, make: fn(&Path), cut: &Cut) -> Vec<u64> {
 #[test]
 fn the_used_number_along_a_job() {
     // of the highest slot it is lowered last, once the entry is empty: to what is left, or to 0
-    assert_eq!(used_along("busy", busy_file, &Cut::clear(9, 3)), [9, 9, 9, 2]);
-    assert_eq!(used_along("lone", lone_file, &Cut::clear(12, 3)), [12, 12, 12, 0]);
+    assert_eq!(used_along("busy", busy_file, &Cut::clear(9, true, 3)), [9, 9, 9, 2, 2, 2, 2]);
+    assert_eq!(used_along("lone", lone_file, &Cut::clear(12, true, 2)), [12, 12, 12, 0, 0, 0]);
     // of another slot it stays
-    assert_eq!(used_along("busy", busy_file, &Cut::clear(2, 2)), [9, 9, 9]);
+    assert_eq!(used_along("busy", busy_file, &Cut::clear(2, false, 1)), [9, 9, 9, 9]);
     // one that is too high is lowered by the first record 1 already
-    assert_eq!(used_along("high", high_file, &Cut::clear(2, 3)), [9, 2, 2, 1]);
-    assert_eq!(used_along("high", high_file, &Cut::clear(1, 2)), [9, 2, 2]);
+    assert_eq!(used_along("high", high_file, &Cut::clear(2, true, 1)), [9, 2, 2, 1, 1]);
+    assert_eq!(used_along("high", high_file, &Cut::clear(1, false, 2)), [9, 2, 2, 2, 2]);
     let save = |slot: u64| Cut::save(&["save", "f.sdd", &slot.to_string(), "scan-512-2"], slot, 512, 2);
     assert_eq!(used_along("high", high_file, &save(4)), [9, 9, 4, 4]);
     assert_eq!(used_along("busy", busy_file, &save(4)), [9, 9, 9, 9]);
@@ -278,7 +382,7 @@ fn the_third_write_of_a_clear_changes_the_used_number_alone() {
     file[32..512].fill(0xa5);
     let after = |written| {
         fs::write(folder.join("f.sdd"), &file).unwrap();
-        Cut::clear(9, 3).stop_after(&folder, written);
+        Cut::clear(9, true, 3).stop_after(&folder, written);
         fs::read(folder.join("f.sdd")).unwrap()
     };
     let (first, second, mut third) = (after(1), after(2), after(3));
@@ -386,4 +490,45 @@ fn a_failed_write_drops_the_job() {
     assert_eq!(status, 74);
     assert!(said.contains("record 4 could not be written"), "{said}");
     assert_eq!(wrote(&folder, &["list", "f.sdd"]), "slots 16 used 0 scans 0\n");
+}
+
+/// The words at the end of a job of which two records of the old scan are left.
+const OLD_IS_LEFT: &str = "; 2 of 2 records of the old scan can still be read: to save or clear again does not remove them, and `rinzo sweep f.sdd NEW` makes a copy of the file without them";
+
+/// A system under which records of zeros are lost, or one of them fails.
+#[test]
+fn zeros_that_do_not_come_to_the_device_are_not_believed() {
+    let folder = folder("lost_zeros");
+    paper_file(&folder);
+    wrote(&folder, &["save", "f.sdd", "1", &scan_file(&folder, 1_000, 1)]);
+    let (file, two) = (fs::read(folder.join("f.sdd")).unwrap(), scan_file(&folder, 1_000, 2));
+    let losing = "#define _GNU_SOURCE
+#include <dlfcn.h>
+#include <string.h>
+#include <unistd.h>
+typedef ssize_t call(int fd, const void *at, size_t len, off_t from);
+ssize_t pwrite64(int fd, const void *at, size_t len, off_t from) {
+  static const char zeros[4096];
+  call *own = (call *)dlsym(RTLD_NEXT, \"pwrite64\");
+  return len <= sizeof zeros && memcmp(at, zeros, len) == 0 ? (ssize_t)len : own(fd, at, len, from);
+}
+";
+    for (lines, status, why) in [
+        (losing.to_string(), 15, "rinzo: refused 15: f.sdd: "),
+        (failing("pwrite64", 5), 74, "rinzo: f.sdd: record 4 could not be written: "),
+        // its flush, when it is written already
+        (failing("fdatasync", 5), 74, "rinzo: f.sdd: record 4 could not be written: "),
+    ] {
+        fs::write(folder.join("f.sdd"), &file).unwrap();
+        let mut command = rinzo(&folder);
+        command.args(["save", "f.sdd", "1", &two, "--replace"]).env("LD_PRELOAD", shim(&folder, &lines));
+        let output = command.output().unwrap();
+        assert_eq!(output.status.code(), Some(status), "{}", said(&output));
+        assert!(!String::from_utf8_lossy(&output.stdout).contains("saved"));
+        let left =
+            if lines.contains("fdatasync") { OLD_IS_LEFT.replacen("2 of", "1 of", 1) } else { OLD_IS_LEFT.into() };
+        let said = said(&output);
+        assert!(said.starts_with(why) && said.trim_end().ends_with(&left), "{said}");
+        assert_eq!(run(&folder, &["read", "f.sdd", "1"]).stdout, scan(1_000, 2));
+    }
 }

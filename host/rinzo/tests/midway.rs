@@ -64,33 +64,55 @@ impl Waiting {
     }
 }
 
-/// A file with a scan in slot 1, and one to be saved over it: records 6, 7, 1, 2.
+/// A file with a scan in slot 1, and one to be saved over it: records 6, 7, 1, 2, and zeros to 4 and 5.
 fn file_with_a_scan(folder: &Path) -> String {
     paper_file(folder);
     wrote(folder, &["save", "f.sdd", "1", &scan_file(folder, 1_000, 1)]);
     scan_file(folder, 1_000, 2)
 }
 
+/// How to be rid of what is left.
+const COPY: &str = "`rinzo sweep f.sdd NEW` makes a copy of the file without them";
+
+/// So many of two records of the old scan.
+fn old_left(records: u64) -> String {
+    let how = format!("to save or clear again does not remove them, and {COPY}");
+    format!("; {records} of 2 records of the old scan can still be read: {how}")
+}
+
 #[test]
 fn ctrl_c_drops_the_job_between_two_records_and_says_what_the_file_shows() {
     let folder = folder("ctrl_c");
     let name = file_with_a_scan(&folder);
+    let file = fs::read(folder.join("f.sdd")).unwrap();
+    let before = |left: u64| {
+        let hold = format!("; {left} of 2 records that it was to write hold bytes and belong to no scan");
+        format!("slot 1 shows the scan that it had before: do it again{hold}: to do it again writes over them")
+    };
+    let new = "slot 1 shows the new scan, which is not confirmed: list the file, and save the scan to slot 1 once more; to keep it again would put it into two slots";
     for (written, shows) in [
-        (1, "slot 1 shows the scan that it had before: "),
-        (2, "slot 1 shows the scan that it had before: "),
-        (3, "slot 1 shows the scan that it had before: "),
-        (4, "slot 1 shows the new scan, which is not confirmed: "),
+        (1, before(1)),
+        (2, before(2)),
+        // record 1 says that they are data records now
+        (3, format!("{}; else {COPY}", before(2))),
+        (4, new.to_string() + &old_left(2)),
+        (5, new.to_string() + &old_left(1)),
+        (6, new.to_string()),
     ] {
+        fs::write(folder.join("f.sdd"), &file).unwrap();
         let job = waiting(&folder, &["save", "f.sdd", "1", &name, "--replace"], written);
         job.interrupt();
         let (status, printed, said) = job.go_on();
         assert_eq!(status, Some(130), "{said}");
         assert_eq!(printed, "");
-        assert!(said.starts_with(&format!("rinzo: f.sdd: interrupted. The job is dropped; {shows}")), "{said}");
+        assert_eq!(said, format!("rinzo: f.sdd: interrupted. The job is dropped; {shows}\n"));
         let shown = run(&folder, &["read", "f.sdd", "1"]).stdout;
         assert_eq!(shown, scan(1_000, if written < 4 { 1 } else { 2 }));
+        assert!(wrote(&folder, &["check", "f.sdd", "--scans"]).starts_with("good"));
+        // what is said of a sweep is true
+        wrote(&folder, &["sweep", "f.sdd", "g.sdd", "--force"]);
+        assert!(wrote(&folder, &["check", "g.sdd"]).ends_with("every data record that belongs to no scan is zeros\n"));
     }
-    assert!(wrote(&folder, &["check", "f.sdd", "--scans"]).starts_with("good"));
 }
 
 #[test]
@@ -100,10 +122,13 @@ fn ctrl_c_drops_a_clear_and_says_whether_the_used_number_is_too_high() {
     wrote(&folder, &["save", "f.sdd", "9", &name]);
     let file = fs::read(folder.join("f.sdd")).unwrap();
     let empty = "slot 9 is empty now, which is not confirmed: list the file";
+    let used = "; used 9, highest scan in slot 1: the next save or clear sets it right";
     for (written, shows) in [
         (1, "slot 9 shows the scan that it had before: do it again".to_string()),
-        (2, format!("{empty}; used 9, highest scan in slot 1: the next save or clear sets it right")),
-        (3, empty.to_string()),
+        (2, format!("{empty}{used}{}", old_left(2))),
+        (3, format!("{empty}{}", old_left(2))),
+        (4, format!("{empty}{}", old_left(1))),
+        (5, empty.to_string()),
     ] {
         fs::write(folder.join("f.sdd"), &file).unwrap();
         let job = waiting(&folder, &["clear", "f.sdd", "9", "--yes", "--json"], written);

@@ -35,6 +35,7 @@ fn check_says_which_form() {
     let wanted = "the index is good: 3 scans in 16 slots; the scans were not read (--scans reads them)
 N 3 D 5 L 512 M 64 U 9 counter 65534 type 0 (data), old form
 8 of 10 records are in use, 2 are free, at most 2 in a row; 5120 bytes in all
+every data record that belongs to no scan is zeros
 ";
     assert_eq!(checked, wanted);
     let json = wrote(&folder, &["check", "old.sdd", "--json"]);

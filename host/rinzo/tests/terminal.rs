@@ -56,11 +56,19 @@ fn one_long_run(folder: &Path, records: u32) {
     }
 }
 
+/// A file with no scan and so many data records, all of them one gap.
+fn one_long_gap(folder: &Path, records: u32) {
+    wrote(folder, &["blank", "gap.sdd", "--n", "3", "--l", "512", "--room", "10000"]);
+    let file = fs::OpenOptions::new().write(true).open(folder.join("gap.sdd")).unwrap();
+    file.write_all_at(&records.to_be_bytes(), 4).unwrap();
+}
+
 #[test]
 fn progress_is_shown_on_a_terminal_and_wiped_away() {
     let folder = folder("terminal");
     many_scans(&folder);
     one_long_run(&folder, 9_000);
+    one_long_gap(&folder, 9_000);
     for (words, part) in [
         (&["check", "f.sdd", "--scans"][..], "reading scan 1 of 1024"),
         (&["list", "f.sdd", "--long"], "looking into scan 1 of 1024"),
@@ -68,6 +76,10 @@ fn progress_is_shown_on_a_terminal_and_wiped_away() {
         (&["convert", "long.sdd", "--to", "old", "--out", "1"], "converting: 1.0 MB"),
         (&["convert", "long.sdd", "--to", "old", "--out", "2"], "comparing: 1.0 MB"),
         (&["convert", "f.sdd", "--to", "old", "--out", "3"], "comparing slot 1 of 1024"),
+        (&["check", "gap.sdd"], "looking into records of no scan: 1.0 MB"),
+        (&["sweep", "gap.sdd", "4"], "sweeping: 1.0 MB"),
+        (&["sweep", "gap.sdd", "5"], "looking into records of no scan: 1.0 MB"),
+        (&["sweep", "f.sdd", "6"], "comparing slot 1 of 1024"),
     ] {
         let said = said_on_terminal(&folder, words);
         assert!(said.contains(part), "{words:?}: {said:?}");
@@ -92,10 +104,17 @@ fn nothing_is_shown_in_a_pipe() {
     let folder = folder("pipe");
     many_scans(&folder);
     one_long_run(&folder, 9_000);
+    one_long_gap(&folder, 9_000);
+    let sweep = ["sweep", "gap.sdd", "2"];
     let convert = ["convert", "long.sdd", "--to", "old", "--out", "1"];
-    for words in
-        [&["check", "f.sdd", "--scans"][..], &["list", "f.sdd", "--long"], &["show", "long.sdd", "1"], &convert]
-    {
+    for words in [
+        &["check", "f.sdd", "--scans"][..],
+        &["check", "gap.sdd"],
+        &["list", "f.sdd", "--long"],
+        &["show", "long.sdd", "1"],
+        &convert,
+        &sweep,
+    ] {
         let output = run(&folder, words);
         assert!(output.status.success());
         assert_eq!(said(&output), "", "{words:?}");

@@ -36,7 +36,7 @@ pub enum Confirmed {
 }
 
 /// A job that is not confirmed. The file opens all the same: the slot shows what it did before or, where the index
-/// record was written, what the job was to leave there.
+/// record was written, what the job was to leave there. Records of no scan may hold what it has left.
 #[derive(Clone, Copy, Debug, PartialEq, Eq)]
 pub enum Dropped<E> {
     /// The library refused.
@@ -95,7 +95,8 @@ fn go_on(_: Wrote) -> ControlFlow<()> {
 }
 
 /// Memory of the file's length in which records 1 to N stand and all else is zeros. That is enough to judge the
-/// file, to list it and to begin any job: no call looks at data records but the one that reads or confirms a scan.
+/// file, to list it and to begin any job: no call looks at data records but those that read or confirm a scan, or ask
+/// of the gaps.
 pub fn look<D: Device>(device: &mut D) -> Result<Vec<u8>, Dropped<D::Error>> {
     let failed = |error| Dropped::Failed(Doing::Reading, error);
     // zeroed memory that is never touched costs nothing on the systems this runs on
@@ -130,7 +131,7 @@ pub fn run<D: Device>(
         }
     }
     let head = 0..(sizes.n * sizes.l) as usize;
-    confirm(device, file, scan, job, [head, data(&job, sizes.l)])
+    confirm(device, file, scan, job, [head, data(&job, sizes.l), old(&job, sizes.l)])
 }
 
 /// Refuses a file that something else has made shorter or longer, as a step does that is lent another length.
@@ -145,13 +146,19 @@ fn data(job: &Job, l: u64) -> Range<usize> {
     from as usize..(from + job.scan_len().next_multiple_of(l)) as usize
 }
 
+/// The bytes of the records that a job zeroes; none where there was no scan.
+fn old(job: &Job, l: u64) -> Range<usize> {
+    let from = job.old_first().saturating_sub(1) * l;
+    from as usize..(from + job.old_count() * l) as usize
+}
+
 /// The confirming step, on these parts of the file as the device gives them back. They are the ones that it looks at.
 fn confirm<D: Device>(
     device: &mut D,
     file: &mut [u8],
     scan: &[u8],
     mut job: Job,
-    parts: [Range<usize>; 2],
+    parts: [Range<usize>; 3],
 ) -> Result<Confirmed, Dropped<D::Error>> {
     let failed = |error| Dropped::Failed(Doing::ReadingBack, error);
     same_length(device, file.len(), Doing::ReadingBack)?;
@@ -159,13 +166,15 @@ fn confirm<D: Device>(
         return Err(Dropped::Refused(Refusal::JobDisagrees));
     }
     for part in parts.into_iter().filter(|part| !part.is_empty()) {
-        // a device that fills nothing in must not be believed for what memory still held
-        file[part.clone()].fill(0);
+        // a device that fills nothing in must not be believed for what memory still held; and since zeros are what an
+        // old scan's records should hold, every bit is turned over, and not cleared
+        file[part.clone()].iter_mut().for_each(|byte| *byte = !*byte);
         device.read_back(part.start as u64, &mut file[part]).map_err(failed)?;
     }
     let (slot, first) = (job.slot(), job.first());
     match step(file, scan, &mut job)? {
-        Step::Saved { written } => Ok(Confirmed::Saved { slot, first, last: first + written - 3 }),
+        // beside the scan's records it has written record 1, the index record and the zeros
+        Step::Saved { written } => Ok(Confirmed::Saved { slot, first, last: first + written - job.old_count() - 3 }),
         Step::Cleared { .. } => Ok(Confirmed::Cleared { slot }),
         Step::Wrote { .. } => unreachable!("a job that has written all its records writes no more"),
     }

@@ -45,10 +45,20 @@ impl Job {
         self.0.saves == 0 && self.0.lowers == 1
     }
 
+    /// The first record of the scan that is replaced or cleared, 0 where there is none.
+    pub fn old_first(&self) -> u64 {
+        self.0.old_first
+    }
+
+    /// How many records that scan has, 0 where there is none. The job's last writes put zeros over them.
+    pub fn old_count(&self) -> u64 {
+        self.0.old_count
+    }
+
     /// Records that the job writes in all, where a record has L bytes: the scan's, record 1 and an index record; of a
-    /// clear that lowers U, record 1 again.
+    /// clear that lowers U, record 1 again; and zeros over each record of the old scan.
     pub fn records(&self, l: u64) -> u64 {
-        self.0.scan_len.div_ceil(l) + 2 + u64::from(self.lowers())
+        self.0.scan_len.div_ceil(l) + 2 + u64::from(self.lowers()) + self.0.old_count
     }
 }
 
@@ -81,7 +91,8 @@ pub fn blank(file: &mut [u8], n: u64, l: u64, m: u64) -> Result<(), Refusal> {
     accepted(why, ())
 }
 
-/// Begins to save a scan to a slot: refusals 1 to 9, 11, 13.
+/// Begins to save a scan to a slot: refusals 1 to 9, 11, 13. A scan that the slot has is zeroed at the job's end
+/// ([`Job::old_count`]).
 pub fn save(file: &[u8], slot: u64, scan: &[u8], about: &About) -> Result<Job, Refusal> {
     let about = about.bytes();
     // SAFETY: pointers and lengths are those of slices, and `about` is 54 bytes.
@@ -97,7 +108,8 @@ pub fn keep(file: &[u8], scan: &[u8], about: &About) -> Result<Job, Refusal> {
     accepted(begun.why, Job(begun.job))
 }
 
-/// Begins to clear a slot: refusals 1 to 10. The highest slot with a scan takes one record more ([`Job::lowers`]).
+/// Begins to clear a slot: refusals 1 to 10. The highest slot with a scan takes one record more ([`Job::lowers`]), and
+/// the scan's records are zeroed at the job's end ([`Job::old_count`]).
 pub fn clear(file: &[u8], slot: u64) -> Result<Job, Refusal> {
     // SAFETY: as in `save`.
     let begun = unsafe { (calls().clear)(file.as_ptr(), file.len(), slot) };
@@ -110,9 +122,13 @@ pub fn clear(file: &[u8], slot: u64) -> Result<Job, Refusal> {
 ///
 /// **A step does no input or output.** Write the record that it names to the
 /// device and make it durable before the next step. Run the confirming step on
-/// bytes **read back** from the device: on the memory that the steps themselves
-/// wrote it answers Saved whatever became of the file. [`drive`](crate::drive)
-/// does both.
+/// bytes **read back** from the device, records 1 to N, the scan's and the old
+/// scan's: on the memory that the steps themselves wrote it answers Saved
+/// whatever became of the file. [`drive`](crate::drive) does both.
+///
+/// A confirmed job stepped again is judged again, so one that replaced a scan is
+/// refused with 15 once a later save has put its data into those records, and
+/// with 14 once that save has written record 1.
 pub fn step(file: &mut [u8], scan: &[u8], job: &mut Job) -> Result<Step, Refusal> {
     // SAFETY: as in `save`; the file is borrowed for writing.
     let stepped = unsafe { (calls().step)(file.as_mut_ptr(), file.len(), scan.as_ptr(), scan.len(), job.0) };

@@ -6,7 +6,8 @@
 //!
 //! A file is a slice of bytes, perhaps longer than what is in use. The calls
 //! that look at it are [`open`], [`list`], [`entry`], [`show`] and [`read`];
-//! [`class`], [`classes`] and [`data`] take a scan apart. [`blank`] makes an
+//! [`class`], [`classes`] and [`data`] take a scan apart; [`gaps_zero`] asks
+//! whether anything is left in the records of no scan. [`blank`] makes an
 //! empty file. Files of the old form, from before 1993, are looked at like any
 //! other ([`Form`] says which it is), and not changed; [`to_current`] and
 //! [`to_old`] write bootstrap and index in the other form, into other memory.
@@ -91,7 +92,7 @@ pub use device::Device;
 pub use entry::{Entry, Kind};
 pub use head::Head;
 pub use job::{Job, Step, blank, clear, keep, save, step};
-pub use look::{Listed, Span, class, classes, data, entry, list, open, read, show};
+pub use look::{Listed, Span, class, classes, data, entry, gaps_zero, list, open, read, show};
 pub use real::{Real4, Real8};
 pub use refusal::{Refusal, Rule};
 pub use sizes::{Form, Sizes};

@@ -7,7 +7,7 @@ mod chosen {
 
 #[cfg(not(feature = "stand-in"))]
 mod chosen {
-    use face::{Begun, Calls, Entry, Job, Listed, Opened, Refusal, Span, Stepped};
+    use face::{Answer, Begun, Calls, Entry, Job, Listed, Opened, Refusal, Span, Stepped};
 
     unsafe extern "C" {
         fn sdd_open(file: *const u8, file_len: usize) -> Opened;
@@ -31,6 +31,7 @@ mod chosen {
         fn sdd_step(file: *mut u8, file_len: usize, scan: *const u8, scan_len: usize, job: Job) -> Stepped;
         fn sdd_to_current(file: *const u8, file_len: usize, out: *mut u8, out_len: usize) -> Refusal;
         fn sdd_to_old(file: *const u8, file_len: usize, out: *mut u8, out_len: usize) -> Refusal;
+        fn sdd_gaps_zero(file: *const u8, file_len: usize) -> Answer;
     }
 
     pub fn calls() -> Calls {
@@ -49,6 +50,7 @@ mod chosen {
             step: sdd_step,
             to_current: sdd_to_current,
             to_old: sdd_to_old,
+            gaps_zero: sdd_gaps_zero,
         }
     }
 }

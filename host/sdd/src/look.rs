@@ -68,6 +68,17 @@ pub fn read(file: &[u8], slot: u64) -> Result<Span, Refusal> {
     span(unsafe { (calls().read)(file.as_ptr(), file.len(), slot) })
 }
 
+/// Whether every one of the records N+1 to N+D that belongs to no listed scan is all zeros: refusals 1, 3 to 8.
+///
+/// Jobs that run to their confirmation do not turn a yes into a no. One that is cut or dropped may, with what it has
+/// left of an old scan or of a new one; no later job zeroes that. All of the file's records are looked at, so they
+/// are all lent, and not records 1 to N alone.
+pub fn gaps_zero(file: &[u8]) -> Result<bool, Refusal> {
+    // SAFETY: as in `open`.
+    let answer = unsafe { (calls().gaps_zero)(file.as_ptr(), file.len()) };
+    accepted(answer.why, answer.yes == 1)
+}
+
 /// Where a class is in a run of bytes, empty for a number outside 1 to the count: refusal 11.
 pub fn class(run: &[u8], number: u64) -> Result<Span, Refusal> {
     // SAFETY: as in `open`.

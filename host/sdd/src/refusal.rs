@@ -34,7 +34,7 @@ pub enum Refusal {
     NoRoom,
     /// 14: the job and the file, or the scan, disagree.
     JobDisagrees,
-    /// 15: the entry or the records are not what the job gives.
+    /// 15: the entry or the records are not what the job gives, or a record of the old scan is not all zeros.
     NotConfirmed,
     /// 16: the sizes for a blank file are outside their ranges or too large.
     BadSizes,

@@ -42,10 +42,12 @@ pub const STEP: usize = MOST;
 pub const TO_CURRENT: usize = MOST;
 /// [`to_old`](crate::to_old).
 pub const TO_OLD: usize = MOST;
+/// [`gaps_zero`](crate::gaps_zero).
+pub const GAPS_ZERO: usize = MOST;
 
 /// All of them, by the names that they have in the header after `sdd_`.
 #[doc(hidden)]
-pub const ALL: [(&str, usize); 14] = [
+pub const ALL: [(&str, usize); 15] = [
     ("open", OPEN),
     ("list", LIST),
     ("entry_at", ENTRY_AT),
@@ -60,4 +62,5 @@ pub const ALL: [(&str, usize); 14] = [
     ("step", STEP),
     ("to_current", TO_CURRENT),
     ("to_old", TO_OLD),
+    ("gaps_zero", GAPS_ZERO),
 ];

@@ -24,6 +24,8 @@ enum Fault {
     ReadBack,
     /// Reading back says yes and fills nothing in.
     EmptyReadBack,
+    /// So it does of the part that begins at this byte.
+    EmptyReadBackAt(u64),
     /// The file is a byte shorter once this many records are written.
     CutShort(u64),
 }
@@ -93,6 +95,7 @@ impl Device for Card {
         match self.fault {
             Fault::ReadBack => Err("the read failed"),
             Fault::EmptyReadBack => Ok(()),
+            Fault::EmptyReadBackAt(part) if part == at => Ok(()),
             _ => {
                 into.copy_from_slice(&self.cells[at as usize..][..into.len()]);
                 Ok(())
@@ -152,8 +155,12 @@ fn keep_and_clear_go_the_same_way() {
     assert_eq!(kept, Ok(Confirmed::Saved { slot: 2, first: 6, last: 6 }));
     card.asked.clear();
     assert_eq!(drive::clear(&mut card, 1), Ok(Confirmed::Cleared { slot: 1 }));
-    let wanted = ["read 32 at 0", "read 1536 at 0", "write 512 at 0", "flush", "write 512 at 512", "flush"];
-    assert_eq!(card.asked, [&wanted[..], &["read back 1536 at 0"]].concat());
+    let wanted = [
+        &["read 32 at 0", "read 1536 at 0", "write 512 at 0", "flush", "write 512 at 512", "flush"][..],
+        &["write 512 at 1536", "flush", "write 512 at 2048", "flush"],
+        &["read back 1536 at 0", "read back 1024 at 1536"],
+    ];
+    assert_eq!(card.asked, wanted.concat());
     assert_eq!(sdd::list(&card.cells).unwrap().len(), 1);
     assert_eq!(drive::clear(&mut card, 1), Err(Dropped::Refused(Refusal::EmptySlot)));
     card.fault = Fault::LyingFlush(card.flushes);
@@ -169,19 +176,65 @@ fn a_clear_of_the_highest_slot_writes_record_1_again() {
     let wanted = [
         &["read 32 at 0", "read 1536 at 0"][..],
         &["write 512 at 0", "flush", "write 512 at 1024", "flush", "write 512 at 0", "flush"],
-        &["read back 1536 at 0"],
+        &["write 512 at 2560", "flush"],
+        &["read back 1536 at 0", "read back 512 at 2560"],
     ];
     assert_eq!(card.asked, wanted.concat());
     assert_eq!(sdd::open(&card.cells).unwrap().u, 1);
-    // however it fails, the file opens; once the index record is there the slot is empty
-    for turn in 0..3 {
+    // however it fails, the file opens; once the index record is there the slot is empty, and then U is lowered
+    for turn in 0..5 {
         for fault in [Fault::Write(turn), Fault::Flush(turn), Fault::LyingFlush(turn)] {
             let mut card = Card::new(cells(), fault);
             assert!(drive::clear(&mut card, 1).is_err(), "{fault:?}");
-            assert_eq!(sdd::open(&card.cells).unwrap().u, 1, "{fault:?}");
+            assert_eq!(sdd::open(&card.cells).unwrap().u, u64::from(turn < 3), "{fault:?}");
             assert_eq!(sdd::show(&card.cells, 1).is_ok(), turn < 2, "{fault:?}");
         }
     }
+}
+
+#[test]
+fn a_replacement_ends_with_zeros_over_the_old_scan_which_are_read_back() {
+    let (saved, card) = save(Fault::None, 1);
+    assert_eq!(saved, Ok(Confirmed::Saved { slot: 1, first: 6, last: 7 }));
+    let wanted = [
+        &["read 32 at 0", "read 1536 at 0"][..],
+        &["write 512 at 2560", "flush", "write 512 at 3072", "flush"],
+        &["write 512 at 0", "flush", "write 512 at 512", "flush"],
+        &["write 512 at 1536", "flush", "write 512 at 2048", "flush"],
+        &["read back 1536 at 0", "read back 1024 at 2560", "read back 1024 at 1536"],
+    ];
+    assert_eq!(card.asked, wanted.concat());
+    assert_eq!(card.cells[1536..2560], [0; 1024]);
+    assert_eq!(sdd::gaps_zero(&card.cells), Ok(true));
+    others_stay(&card, 1);
+}
+
+#[test]
+fn a_device_that_still_has_the_old_scan_is_never_believed() {
+    // the fifth and the sixth write, which put zeros over records 4 and 5
+    for (turn, zeroed) in [(4, 4), (5, 5)] {
+        for fault in [Fault::Write(turn), Fault::Flush(turn)] {
+            let (ended, card) = save(fault, 1);
+            assert!(matches!(ended, Err(Dropped::Failed(Doing::Writing(record), _)) if record == zeroed), "{ended:?}");
+            still_readable(&card);
+        }
+        for fault in [Fault::LyingFlush(turn), Fault::Flip(turn)] {
+            let (ended, card) = save(fault, 1);
+            assert_eq!(ended, Err(Dropped::Refused(Refusal::NotConfirmed)), "{fault:?}");
+            still_readable(&card);
+        }
+    }
+    // zeros are what memory has there, so a read that fills nothing in must not find them
+    let (ended, _) = save(Fault::EmptyReadBackAt(1536), 1);
+    assert_eq!(ended, Err(Dropped::Refused(Refusal::NotConfirmed)));
+    let mut card = Card::new(cells(), Fault::EmptyReadBackAt(1536));
+    assert_eq!(drive::clear(&mut card, 1), Err(Dropped::Refused(Refusal::NotConfirmed)));
+}
+
+/// The slot shows the new scan, and something of the old one is left.
+fn still_readable(card: &Card) {
+    let shown = sdd::read(&card.cells, 1).map(|span| card.cells[span].to_vec());
+    assert_eq!((shown, sdd::gaps_zero(&card.cells)), (Ok(scan(1_000, 2)), Ok(false)), "{:?}", card.fault);
 }
 
 #[test]

@@ -48,6 +48,19 @@ fn its_scans_are_listed_shown_and_read() {
 }
 
 #[test]
+fn its_gaps_are_asked_for_too() {
+    assert_eq!(sdd::gaps_zero(&old()), Ok(true), "every data record belongs to a scan");
+    let mut file = with(2, 5);
+    assert_eq!(sdd::gaps_zero(&file), Ok(true), "record 8 is a gap of zeros");
+    for (at, wanted) in [(7 * 512, false), (8 * 512 - 1, false), (8 * 512, true), (7 * 512 - 1, true)] {
+        file[at] ^= 1;
+        assert_eq!(sdd::gaps_zero(&file), Ok(wanted), "byte {at}");
+        file[at] ^= 1;
+    }
+    assert_eq!(sdd::gaps_zero(&with(512, 3)), Err(Refusal::BadEntry(1)));
+}
+
+#[test]
 fn an_entry_has_its_position_code_and_its_magic_number() {
     let file = old();
     let entry = sdd::entry(&file, 4).unwrap();

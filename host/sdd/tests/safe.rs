@@ -111,8 +111,8 @@ fn parts_are_spans_of_what_was_lent() {
     assert_eq!(sdd::data(&scan), Ok(256..700));
     assert!(sdd::class(&scan, 14).unwrap().is_empty());
     let job = sdd::clear(&file, 1).unwrap();
-    assert_eq!((job.lowers(), job.records(512)), (true, 3));
-    assert_eq!(run(&mut file, &[], job), Step::Cleared { written: 3 });
+    assert_eq!((job.lowers(), job.old_first(), job.old_count(), job.records(512)), (true, 4, 2, 5));
+    assert_eq!(run(&mut file, &[], job), Step::Cleared { written: 5 });
     assert_eq!(sdd::list(&file), Ok(vec![]));
 }
 
@@ -126,10 +126,46 @@ fn u_is_the_highest_slot_after_each_job() {
         assert_eq!(run(&mut file, &small, job), Step::Saved { written: 3 });
         assert_eq!(sdd::open(&file).unwrap().u, u);
     }
-    for (slot, writes, u) in [(2, 2, 9), (9, 3, 4), (4, 3, 0)] {
+    for (slot, writes, u) in [(2, 3, 9), (9, 4, 4), (4, 4, 0)] {
         let job = sdd::clear(&file, slot).unwrap();
-        assert_eq!((job.lowers(), job.records(512)), (writes == 3, writes));
+        assert_eq!((job.lowers(), job.records(512)), (writes == 4, writes));
         assert_eq!(run(&mut file, &[], job), Step::Cleared { written: writes });
         assert_eq!(sdd::open(&file).unwrap().u, u);
     }
+}
+
+/// Steps a job, of which every step has to write, so many times; answers the records.
+fn wrote(file: &mut [u8], scan: &[u8], job: &mut sdd::Job, steps: u64) -> Vec<u64> {
+    let record = |_| match sdd::step(file, scan, job) {
+        Ok(Step::Wrote { record, .. }) => record,
+        other => panic!("{other:?}"),
+    };
+    (0..steps).map(record).collect()
+}
+
+#[test]
+fn what_is_replaced_or_cleared_is_zeroed_and_the_gaps_are_asked_for() {
+    let mut file = file();
+    for (slot, len, old, records) in
+        [(1, 1_000, (0, 0), &[4, 5, 1, 2][..]), (9, 512, (0, 0), &[6, 1, 3]), (1, 1_000, (4, 2), &[7, 8, 1, 2, 4, 5])]
+    {
+        let scan = scan(len, 3);
+        let mut job = sdd::save(&file, slot, &scan, &About::default()).unwrap();
+        assert_eq!((job.old_first(), job.old_count()), old);
+        assert_eq!(job.records(512), records.len() as u64);
+        assert_eq!(wrote(&mut file, &scan, &mut job, records.len() as u64), records);
+        assert_eq!(sdd::step(&mut file, &scan, &mut job), Ok(Step::Saved { written: records.len() as u64 }));
+        assert_eq!(sdd::gaps_zero(&file), Ok(true));
+    }
+    // a clear that is cut between its zeros
+    let mut job = sdd::clear(&file, 1).unwrap();
+    assert_eq!((job.old_first(), job.old_count(), job.lowers(), job.records(512)), (7, 2, false, 4));
+    assert_eq!(wrote(&mut file, &[], &mut job, 3), [1, 2, 7]);
+    assert_eq!(sdd::gaps_zero(&file), Ok(false));
+    assert_eq!(wrote(&mut file, &[], &mut job, 1), [8]);
+    file[512 * 7 + 100] = 1;
+    assert_eq!(sdd::step(&mut file, &[], &mut job), Err(Refusal::NotConfirmed));
+    file[512 * 7 + 100] = 0;
+    assert_eq!(sdd::step(&mut file, &[], &mut job), Ok(Step::Cleared { written: 4 }));
+    assert_eq!((sdd::gaps_zero(&file), sdd::gaps_zero(&[])), (Ok(true), Err(Refusal::TooShort)));
 }

@@ -3,7 +3,7 @@
 //! Programs link the proved library, which has the same names. This is for work on the host alone, and a crate of
 //! its own because the comparison has both the proved library and the stand-in in one program.
 
-use face::{Begun, Entry, Job, Listed, Opened, Refusal, Span, Stepped};
+use face::{Answer, Begun, Entry, Job, Listed, Opened, Refusal, Span, Stepped};
 
 /// Exports a call of the table under its name in the header.
 macro_rules! exported {
@@ -33,4 +33,5 @@ exported! {
     sdd_step is step(file: *mut u8, file_len: usize, scan: *const u8, scan_len: usize, job: Job) -> Stepped;
     sdd_to_current is to_current(file: *const u8, file_len: usize, out: *mut u8, out_len: usize) -> Refusal;
     sdd_to_old is to_old(file: *const u8, file_len: usize, out: *mut u8, out_len: usize) -> Refusal;
+    sdd_gaps_zero is gaps_zero(file: *const u8, file_len: usize) -> Answer;
 }

@@ -1,6 +1,6 @@
 use mathlib.Core.Path.{refl, ap, _∙_}
 use Rattle.writes.specs.Inside.{wroteOne}
-use Rattle.steps.proofs.Agreed.{count-small, total-small}
+use Rattle.steps.proofs.Agreed.{count-small, old-small, total-small}
 use Rattle.steps.proofs.Phases.{agreeing-at, past-step}
 use native.Mathlib.Omega.{arith}
 use borrow.Author.Needs.{needs}
@@ -8,7 +8,7 @@ use Rattle.steps.proofs.next.Statement.{statement}
 use Rattle.steps.proofs.next.Tie as tie
 
 total-requires : tie.Need-total-requires
-total-requires c κs = let a = c .before .before .before .args in rw (c .records .ensures) (count-small (a .file .now) (a .scan .now) (a .j) _ (agreeing-at (a .file .now) (a .scan .now) (a .j) (c .before .before .before .pre .1) (c .before .before .before .pre .0)))
+total-requires c κs = let a = c .before .before .before .args in let g = agreeing-at (a .file .now) (a .scan .now) (a .j) (c .before .before .before .pre .1) (c .before .before .before .pre .0) in (rw (c .records .ensures) (count-small (a .file .now) (a .scan .now) (a .j) _ g), old-small (a .file .now) (a .scan .now) (a .j) _ g)
 
 returns : tie.Need-returns
 returns c = let a = c .before .before .before .before .before .before .before .before .args in past-step (a .file .now) (a .scan .now) (a .j) _ _ _ (c .before .before .before .before .before .before .before .before .pre .1) (c .before .before .before .before .before .before .before .before .pre .0) (omega (arith, c .before .before .before .before .total .ensures, c .before .before .before .before .before .records .ensures)) _ (c .confirm .ensures) refl refl

@@ -1,5 +1,5 @@
-use Rattle.steps.proofs.Agreed.{homed, rowed, count-small}
-use Rattle.steps.proofs.Phases.{agreeing-at, data-step, boot-step, entry-step, lower-step}
+use Rattle.steps.proofs.Agreed.{homed, rowed, late, count-small}
+use Rattle.steps.proofs.Phases.{agreeing-at, data-step, boot-step, entry-step, late-step}
 use native.Mathlib.Omega.{arith}
 use borrow.Author.Needs.{needs}
 use Rattle.steps.proofs.write_next.Statement.{statement}
@@ -26,8 +26,11 @@ write-entry-requires c κs = let a = c .before .before .before .before .before .
 returns-3 : tie.Need-returns-3
 returns-3 c = let a = c .before .before .before .before .before .before .before .before .before .before .before .before .args in entry-step (a .file .now) (a .scan .now) (a .j) _ _ _ (c .before .before .before .before .before .before .before .before .before .before .before .before .pre .1 .0) (c .before .before .before .before .before .before .before .before .before .before .before .before .pre .0) (omega arith) (c .before .before .write-entry .ensures .0) (c .before .before .write-entry .ensures .1)
 
+late-next-requires : tie.Need-late-next-requires
+late-next-requires c κs = let a = c .before .before .before .before .before .before .before .before .before .args in (c .before .before .before .before .before .before .before .before .before .pre .0, late (a .file .now) (a .scan .now) (a .j) _ (agreeing-at (a .file .now) (a .scan .now) (a .j) (c .before .before .before .before .before .before .before .before .before .pre .1 .0) (c .before .before .before .before .before .before .before .before .before .pre .0)) (c .before .before .before .before .before .before .before .before .before .pre .1 .1 .rows) (c .before .before .before .before .before .before .before .before .before .pre .1 .1 .some))
+
 returns-4 : tie.Need-returns-4
-returns-4 c = let a = c .before .before .before .before .before .before .before .before .before .before .before .before .args in lower-step (a .file .now) (a .scan .now) (a .j) _ _ _ (c .before .before .before .before .before .before .before .before .before .before .before .before .pre .1 .0) (c .before .before .before .before .before .before .before .before .before .before .before .before .pre .0) (c .before .before .before .before .before .before .before .before .before .before .before .before .pre .1 .1 .some) (omega arith) (c .before .before .used-next .ensures .0) (c .before .before .used-next .ensures .1)
+returns-4 c = let a = c .before .before .before .before .before .before .before .before .before .before .before .before .args in late-step (a .file .now) (a .scan .now) (a .j) _ _ _ (c .before .before .before .before .before .before .before .before .before .before .before .before .pre .1 .0) (c .before .before .before .before .before .before .before .before .before .before .before .before .pre .0) (c .before .before .before .before .before .before .before .before .before .before .before .before .pre .1 .1 .some) (omega arith) (c .before .before .late-next .ensures .0) (c .before .before .late-next .ensures .1)
 
 pub write-next-spec : {M : Type 1} → statement M
 write-next-spec =
@@ -43,6 +46,6 @@ write-next-spec =
     write-entry-requires
     (λ c. search needs)
     returns-3
-    (λ c κs. search needs)
+    late-next-requires
     (λ c. search needs)
     returns-4)

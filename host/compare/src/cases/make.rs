@@ -116,6 +116,20 @@ pub fn file(rng: &mut Rng, shape: &Shape, d: u64, tail: usize, fill: u64) -> Vec
     file
 }
 
+/// The data records of a file that belong to no scan.
+pub fn gaps(file: &[u8], shape: &Shape) -> Vec<u64> {
+    let runs: Vec<(u64, u64)> = (1..=shape.capacity()).map(|slot| shape.run(file, slot)).collect();
+    let is_free = |record: &u64| !runs.iter().any(|(first, last)| (*first..=*last).contains(record));
+    (shape.n + 1..=shape.n + shape.word(file, 2)).filter(is_free).collect()
+}
+
+/// Puts zeros into them.
+pub fn zero_gaps(file: &mut [u8], shape: &Shape) {
+    for record in gaps(file, shape) {
+        file[((record - 1) * shape.l) as usize..(record * shape.l) as usize].fill(0);
+    }
+}
+
 /// A small file of this form that opens.
 pub fn small_file(rng: &mut Rng, form: Form) -> (Shape, Vec<u8>) {
     let shape = Shape { form, ..small_shape(rng) };

@@ -92,7 +92,7 @@ fn interleaved(world: &mut World, shape: &Shape) -> Round {
     if world.rng.percent(50) {
         world.step(&mut one)?;
     }
-    for _ in 0..3 {
+    for _ in 0..4 {
         world.step(&mut two)?;
         world.step(&mut one)?;
     }

@@ -20,6 +20,7 @@ pub fn round(world: &mut World) -> Round {
 /// Every call that looks, converts or begins a job; some jobs are also run.
 pub fn ask_everything(world: &mut World, shape: &Shape) -> Round {
     world.call(Call::Open)?;
+    world.call(Call::GapsZero)?;
     list(world, shape)?;
     for _ in 0..3 {
         let slot = slots::any(world, shape);

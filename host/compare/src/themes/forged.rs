@@ -69,7 +69,10 @@ fn forge(world: &mut World, job: Job, field: u64) -> Job {
             ];
             forged.first = near(rng, &edge);
         }
-        5 => forged.written = near(rng, &[0, k, k + 1, k + 2, k + 3, 2, 3, job.written + 1]),
+        5 => {
+            let total = k + 2 + job.old_count + u64::from(job.saves == 0 && job.lowers == 1);
+            forged.written = near(rng, &[0, k, k + 1, k + 2, k + 3, 2, 3, job.written + 1, total, total + 1]);
+        }
         6 => {
             let at = if rng.percent(50) { rng.between(20, 31) } else { rng.below(32) } as usize;
             forged.boot[at] ^= 1 << rng.below(8);

@@ -6,6 +6,7 @@ use crate::call::Call;
 use crate::cases::make;
 use crate::cases::shape::{Form, Shape, put32};
 use crate::world::{Round, World};
+use face::Job;
 
 const MOST: u64 = 1_000_000;
 
@@ -26,6 +27,8 @@ pub fn round(world: &mut World) -> Round {
             jobs::run(world, job, Call::Keep)?;
         }
     }
+    world.call(Call::GapsZero)?;
+    old_runs(world)?;
     world.call(Call::Show { slot: 1 })?;
     world.call(Call::Read { slot: 2 })?;
     files::list(world, &shape)?;
@@ -45,6 +48,22 @@ fn nearly_full(world: &mut World, shape: &Shape) {
     put32(&mut run, 0, shape.n + 1);
     put32(&mut run, 4, last);
     world.patch(shape.l as usize, &run);
+}
+
+/// A clear whose old run ends at the last record of the room, and one past it, though the bytes are there.
+fn old_runs(world: &mut World) -> Round {
+    let Some(begun) = world.begin(Call::Clear { slot: 1 })? else { return Ok(()) };
+    let (file, scan) = (world.file[..4_096].to_vec(), world.scan.clone());
+    world.set_scan(Vec::new());
+    for (old_first, old_count) in [(MOST + 1, 1), (MOST, 2), (MOST - 1, 3), (MOST, 1)] {
+        let mut job = Job { old_first, old_count, ..begun };
+        for _ in 0..=jobs::writes_of(world, &job) {
+            world.step(&mut job)?;
+        }
+        world.patch(0, &file);
+    }
+    world.set_scan(scan);
+    Ok(())
 }
 
 /// N+D one above what it may be, though the bytes are there.

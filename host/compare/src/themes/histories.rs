@@ -58,6 +58,7 @@ fn some_steps(world: &mut World, mut job: Job) -> Round {
 /// What a reader would ask of the file then.
 pub fn look(world: &mut World, shape: &Shape) -> Round {
     world.call(Call::Open)?;
+    world.call(Call::GapsZero)?;
     world.call(Call::List { out_len: 3 * shape.capacity() as usize })?;
     for _ in 0..2 {
         let slot = slots::any(world, shape);

@@ -29,5 +29,6 @@ pub fn round(world: &mut World) -> Round {
     world.call(Call::Open)?;
     jobs::clear_highest(world)?;
     world.call(Call::Open)?;
+    world.call(Call::GapsZero)?;
     Ok(())
 }

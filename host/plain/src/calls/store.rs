@@ -1,8 +1,11 @@
 //! Blank, save, keep, clear and step.
 
+use crate::calls::gaps::gaps_zero;
 use crate::calls::look::occupied;
+use crate::calls::old;
 use crate::ground::bytes::put32;
 use crate::ground::line::or;
+use crate::ground::zeros::is_zero;
 use crate::rules::boot::{Answer, Sizes, bootstrap, changeable, refuse};
 use crate::rules::index::{Judged, Run, highest, highest_above, judge, listed};
 use crate::rules::scan::rules;
@@ -38,8 +41,11 @@ fn records<const X: u32>(scan_len: u64, l: u64) -> u64 {
     or::<X, _>(58, scan_len.div_ceil(l), scan_len / l + 1)
 }
 
-fn job_on(file: &[u8], slot: u64) -> Job {
-    Job { slot, file_len: file.len() as u64, boot: file[..32].try_into().unwrap(), ..Job::ZEROS }
+/// A job on a slot, with the run of the scan that the slot has.
+fn job_on<const X: u32>(file: &[u8], sizes: &Sizes, slot: u64) -> Job {
+    let (old_first, old_count) = old::carried::<X>(file, sizes, slot);
+    let boot = file[..32].try_into().unwrap();
+    Job { slot, file_len: file.len() as u64, old_first, old_count, boot, ..Job::ZEROS }
 }
 
 pub fn save<const X: u32>(file: &[u8], slot: u64, scan: &[u8], about: &[u8; 54]) -> Answer<Job> {
@@ -61,10 +67,12 @@ pub fn keep<const X: u32>(file: &[u8], scan: &[u8], about: &[u8; 54]) -> Answer<
     let sizes = &judged.sizes;
     let from = or::<X, _>(61, 1, sizes.u + 1);
     let empty = (from..=sizes.capacity()).find(|slot| Run::at::<X>(file, sizes, *slot).is_empty::<X>());
-    match empty {
-        Some(slot) => begin::<X>(file, &judged, slot, scan, about),
-        None => refuse(12, 0),
+    let Some(slot) = empty else { return refuse(12, 0) };
+    let mut job = begin::<X>(file, &judged, slot, scan, about)?;
+    if X == 214 && slot > 1 {
+        (job.old_first, job.old_count) = old::carried::<X>(file, sizes, slot - 1);
     }
+    Ok(job)
 }
 
 fn begin<const X: u32>(file: &[u8], judged: &Judged, slot: u64, scan: &[u8], about: &[u8; 54]) -> Answer<Job> {
@@ -72,7 +80,9 @@ fn begin<const X: u32>(file: &[u8], judged: &Judged, slot: u64, scan: &[u8], abo
     let scan_len = scan.len() as u64;
     let lowers = u64::from(X == 200 && slot >= highest::<X>(file, &judged.sizes, judged.sizes.u));
     match place::<X>(file, judged, slot, records::<X>(scan_len, judged.sizes.l)) {
-        Some(first) => Ok(Job { saves: 1, scan_len, first, lowers, about: *about, ..job_on(file, slot) }),
+        Some(first) => {
+            Ok(Job { saves: 1, scan_len, first, lowers, about: *about, ..job_on::<X>(file, &judged.sizes, slot) })
+        }
         None => refuse(13, 0),
     }
 }
@@ -116,7 +126,8 @@ pub fn clear<const X: u32>(file: &[u8], slot: u64) -> Answer<Job> {
         191 => slot == sizes.u,
         _ => slot == highest_above::<X>(file, &sizes, slot, sizes.u),
     };
-    Ok(Job { first: or::<X, _>(66, 0, run.first), lowers: u64::from(is_highest), ..job_on(file, slot) })
+    let first = or::<X, _>(66, 0, run.first);
+    Ok(Job { first, lowers: u64::from(is_highest), ..job_on::<X>(file, &sizes, slot) })
 }
 
 /// The sizes where job, file and scan agree.
@@ -144,9 +155,19 @@ fn agree<const X: u32>(file: &[u8], scan: &[u8], job: &Job) -> Option<Sizes> {
             return None;
         }
     }
-    let most = writes::<X>(file, &sizes, job, k) + or::<X, _>(74, 0, 1);
-    let most = if X == 197 && job.saves == 0 { most.max(3) } else { most };
-    (job.written <= most).then_some(sizes)
+    let may_go_on = old::may_zero::<X>(file, &sizes, job, k) && job.written <= most_written::<X>(file, &sizes, job, k);
+    may_go_on.then_some(sizes)
+}
+
+/// How many records a job may say that it has written.
+fn most_written<const X: u32>(file: &[u8], sizes: &Sizes, job: &Job, k: u64) -> u64 {
+    let writes = writes::<X>(file, sizes, job, k);
+    match X {
+        74 => writes.saturating_add(1),
+        197 if job.saves == 0 => writes.max(3 + job.old_count),
+        247 => k + 2 + u64::from(lowers::<X>(file, sizes, job)),
+        _ => writes,
+    }
 }
 
 /// Whether the job's word on lowering U is one.
@@ -171,9 +192,9 @@ fn lowers<const X: u32>(file: &[u8], sizes: &Sizes, job: &Job) -> bool {
     }
 }
 
-/// How many records the job has to write, of which k are data records.
+/// How many records the job has to write, of which k are data records. The old run is in the room, but for wrong lines.
 fn writes<const X: u32>(file: &[u8], sizes: &Sizes, job: &Job, k: u64) -> u64 {
-    k + 2 + u64::from(lowers::<X>(file, sizes, job))
+    (k + 2 + u64::from(lowers::<X>(file, sizes, job))).saturating_add(old::count::<X>(job, k))
 }
 
 fn data_records<const X: u32>(sizes: &Sizes, job: &Job) -> u64 {
@@ -192,7 +213,8 @@ pub fn step<const X: u32>(file: &mut [u8], scan: &[u8], job: &Job) -> Stepped {
         return refused(Refusal { number, value: 0 });
     };
     let k = data_records::<X>(&sizes, job);
-    if job.written >= writes::<X>(file, &sizes, job, k) {
+    let total = writes::<X>(file, &sizes, job, k);
+    if job.written >= total {
         let done = if job.saves != 0 { 1 } else { 2 };
         return match confirm::<X>(file, scan, job, k) {
             Ok(()) => Stepped { why: Refusal::NONE, done, record: 0, written: job.written, job: *job },
@@ -207,6 +229,7 @@ pub fn step<const X: u32>(file: &mut [u8], scan: &[u8], job: &Job) -> Stepped {
         187 if job.written == 3 && job.saves == 0 => 0,
         _ => job.lowers,
     };
+    (job.old_first, job.old_count) = old::handed_back::<X>(&job, total);
     Stepped { why: Refusal::NONE, done: 0, record, written: job.written, job }
 }
 
@@ -216,6 +239,30 @@ enum Turn {
     Boot,
     Entry,
     Lowered,
+    /// Zeros over the old run's record of this number, counted from 0.
+    Zeros(u64),
+}
+
+/// Whose turn it is at this place, counted from 0, after the data records.
+fn turn<const X: u32>(file: &[u8], sizes: &Sizes, job: &Job, k: u64, place: u64) -> Turn {
+    let lowers = lowers::<X>(file, sizes, job);
+    let order = match X {
+        75 => [Turn::Entry, Turn::Boot, Turn::Lowered],
+        178 if lowers => [Turn::Boot, Turn::Lowered, Turn::Entry],
+        _ => [Turn::Boot, Turn::Entry, Turn::Lowered],
+    };
+    let before_zeros = match X {
+        267 => 0,
+        268 => 1,
+        269 => 2,
+        _ => 2 + u64::from(lowers),
+    };
+    let zeros = old::count::<X>(job, k);
+    match place.checked_sub(before_zeros) {
+        None => order[place as usize],
+        Some(i) if i < zeros => Turn::Zeros(i),
+        Some(_) => order[(place - zeros) as usize],
+    }
 }
 
 /// Writes the record whose turn it is; answers which.
@@ -223,12 +270,7 @@ fn write<const X: u32>(file: &mut [u8], sizes: &Sizes, scan: &[u8], job: &mut Jo
     if job.written < k {
         return put_data::<X>(file, sizes, scan, job);
     }
-    let order = match X {
-        75 => [Turn::Entry, Turn::Boot, Turn::Lowered],
-        178 if lowers::<X>(file, sizes, job) => [Turn::Boot, Turn::Lowered, Turn::Entry],
-        _ => [Turn::Boot, Turn::Entry, Turn::Lowered],
-    };
-    let turn = order[(job.written - k) as usize];
+    let turn = turn::<X>(file, sizes, job, k, job.written - k);
     match turn {
         Turn::Boot => put_boot::<X>(file, sizes, job, k),
         Turn::Lowered => put_lowered::<X>(file, sizes, job),
@@ -236,6 +278,7 @@ fn write<const X: u32>(file: &mut [u8], sizes: &Sizes, scan: &[u8], job: &mut Jo
             put_entry::<X>(file, sizes, job, k);
             return sizes.home_record::<X>(job.slot);
         }
+        Turn::Zeros(i) => return old::put_zeros::<X>(file, sizes, job, i),
     }
     let forgets = X == 76 || (X == 182 && matches!(turn, Turn::Lowered));
     if !forgets {
@@ -363,16 +406,20 @@ fn put_entry<const X: u32>(file: &mut [u8], sizes: &Sizes, job: &Job, k: u64) {
     }
 }
 
-fn is_zero(bytes: &[u8]) -> bool {
-    bytes.iter().all(|byte| *byte == 0)
-}
-
 fn confirm<const X: u32>(file: &[u8], scan: &[u8], job: &Job, k: u64) -> Answer<()> {
     if X == 85 {
         return Ok(());
     }
+    if X == 248 {
+        old::zeroed::<X>(file, &bootstrap::<X>(file)?, job)?;
+    }
     let sizes = if X == 86 { bootstrap::<X>(file)? } else { judge::<X>(file)?.sizes };
-    if X == 207 && sizes.u != highest::<X>(file, &sizes, sizes.u) {
+    let asks_more = match X {
+        207 => sizes.u != highest::<X>(file, &sizes, sizes.u),
+        249 => gaps_zero::<X>(file) == Ok(false),
+        _ => false,
+    };
+    if asks_more {
         return refuse(15, 0);
     }
     let (told, rest) = file[sizes.home(job.slot)..][..sizes.m as usize].split_at(62);
@@ -382,5 +429,5 @@ fn confirm<const X: u32>(file: &[u8], scan: &[u8], job: &Job, k: u64) -> Answer<
         let (data, padding) = records.split_at(scan.len());
         data == scan && (is_zero(padding) || X == 88)
     };
-    if entry_stands && records_stand { Ok(()) } else { refuse(15, 0) }
+    if entry_stands && records_stand { old::zeroed::<X>(file, &sizes, job) } else { refuse(15, 0) }
 }

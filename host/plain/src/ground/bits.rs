@@ -59,6 +59,16 @@ impl Bits {
         if taken { end } else { (word * 64).max(at).min(end) }
     }
 
+    /// The free records from `from` on and below `end`, neighbours together: the first of them, and the one after the last.
+    pub fn gaps(&self, from: u64, end: u64) -> impl Iterator<Item = (u64, u64)> {
+        let mut at = from;
+        std::iter::from_fn(move || {
+            let first = self.next(at, end, false);
+            at = self.next(first, end, true);
+            (first < end).then_some((first, at))
+        })
+    }
+
     /// The lowest r from `from` on with r to r+k-1 free and at most `room`.
     pub fn lowest_gap(&self, from: u64, room: u64, k: u64) -> Option<u64> {
         let end = room + 1;

@@ -2,9 +2,11 @@
 
 use super::each::each;
 use super::form;
+use crate::file::gaps::{Gaps, free_runs};
 use crate::file::lent::Lent;
 use crate::say::failure::Failure;
 use crate::say::json::Json;
+use crate::say::left;
 use crate::say::out::Out;
 use crate::say::progress::Progress;
 use crate::say::used;
@@ -22,6 +24,7 @@ struct Found {
     scans: Vec<Listed>,
     /// What the scans are like; none where they were not read.
     read: Option<Scans>,
+    gaps: Gaps,
     len: usize,
 }
 
@@ -39,8 +42,9 @@ fn check(path: &Path, with_scans: bool, out: &Out) -> Result<(), Failure> {
     let mut lent = Lent::to_read(path, out)?;
     let (sizes, scans) = (lent.sizes()?, lent.scans()?);
     let read = if with_scans { Some(read_all(&mut lent, &scans, sizes.l, out)?) } else { None };
-    let found = Found { sizes, scans, read, len: lent.bytes().len() };
-    out.answer(|| found.text(), || found.json(path))?;
+    let gaps = lent.gaps(out)?;
+    let found = Found { sizes, scans, read, gaps, len: lent.bytes().len() };
+    out.answer(|| found.text(path), || found.json(path))?;
     match found.read.iter().flat_map(|scans| &scans.broken).next() {
         // each was told in the answer
         Some((_, why)) => Err(Failure::Told(why.number() as u8)),
@@ -71,16 +75,16 @@ impl Found {
 
     /// The most free records in a row: the longest scan that a save takes.
     fn longest_free(&self) -> u64 {
-        let mut runs: Vec<(u64, u64)> = self.scans.iter().map(|scan| (scan.first.into(), scan.last.into())).collect();
-        runs.sort_unstable();
-        runs.push((self.sizes.room + 1, self.sizes.room + 1));
-        let mut next = self.sizes.n + 1;
-        let gaps = runs.into_iter().map(|(first, last)| {
-            let gap = first.saturating_sub(next);
-            next = last + 1;
-            gap
-        });
-        gaps.max().unwrap_or(0)
+        let free = free_runs(&self.scans, self.sizes.n, self.sizes.room).into_iter();
+        free.map(|run| run.end - run.start).max().unwrap_or(0)
+    }
+
+    /// What is left in data records of no scan. Records past the data section are not asked about.
+    fn left(&self, path: &Path) -> String {
+        match self.gaps.zero {
+            true => "every data record that belongs to no scan is zeros".to_string(),
+            false => left::in_records(self.gaps.not_zero, path),
+        }
     }
 
     /// What can be said of the file, and only that.
@@ -103,12 +107,12 @@ impl Found {
         }
     }
 
-    fn text(&self) -> String {
+    fn text(&self, path: &Path) -> String {
         let z = &self.sizes;
         let kind = if z.individual_records { "1 (individual records)" } else { "0 (data)" };
         let used = used::too_high(z, &self.scans).map_or_else(String::new, |told| format!("\n{told}"));
         format!(
-            "{}\nN {} D {} L {} M {} U {} counter {} type {kind}, {} form{used}\n{} of {} records are in use, {} are free, at most {} in a row; {} bytes in all",
+            "{}\nN {} D {} L {} M {} U {} counter {} type {kind}, {} form{used}\n{} of {} records are in use, {} are free, at most {} in a row; {} bytes in all\n{}",
             self.verdict(),
             z.n,
             z.d,
@@ -121,7 +125,8 @@ impl Found {
             z.room,
             z.room - self.in_use(),
             self.longest_free(),
-            self.len
+            self.len,
+            self.left(path)
         )
     }
 
@@ -142,6 +147,8 @@ impl Found {
             ("bytes", self.len as u64),
         ];
         fields.extend(more.map(|(name, number)| (name, Json::number(number))));
+        fields.push(("gaps-zero", Json::truth(self.gaps.zero)));
+        fields.push(("records-not-zero", Json::number(self.gaps.not_zero)));
         let of_scans =
             |list: fn(&Scans) -> Json| self.read.as_ref().map_or_else(|| Json::Plain("null".to_string()), list);
         fields.push(("broken", of_scans(Scans::broken_json)));

@@ -84,7 +84,7 @@ fn replaced(to: &Path, from: &Device, force: bool) -> Result<Option<Device>, Fai
         && same(one, two)
     {
         let name = shown::name(to);
-        let what = format!("{name} is the file that is converted, which is never done in place: give another name");
+        let what = format!("{name} is the file that it is made of, which is never done in place: give another name");
         return Err(Failure::Exists(what));
     }
     if force { open::to_change(to).map(Some) } else { Err(is_there(to)) }

@@ -1,6 +1,7 @@
 //! A file as it is lent to the library: a device, and the window on it.
 
 use super::device::{Device, Way};
+use super::gaps::{self, Gaps};
 use super::open;
 use super::window::Window;
 use crate::say::failure::Failure;
@@ -63,6 +64,17 @@ impl Lent {
     /// Where a slot's records are.
     pub fn shown(&self, slot: u64) -> Result<Span, Failure> {
         sdd::show(self.bytes(), slot).map_err(|why| self.refused(why, Some(slot)))
+    }
+
+    /// What its gaps hold: all of them are read.
+    pub fn gaps(&mut self, out: &Out) -> Result<Gaps, Failure> {
+        let (device, mut progress) = (&self.device, Progress::of_bytes(out, "looking into records of no scan"));
+        let looked = gaps::look(&mut self.window, &mut |at, into| {
+            progress.went_on(into.len() as u64);
+            device.read(at, into)
+        });
+        let found = looked.map_err(|error| cannot_be_read(device, &error))?;
+        found.map_err(|why| self.refused(why, None))
     }
 
     /// A refusal of this file, or of this slot of it, with what there is to say of it.

@@ -89,6 +89,17 @@ impl Window {
         Ok(())
     }
 
+    /// Puts bytes of the file that are at hand already.
+    pub fn put(&mut self, at: usize, bytes: &[u8]) -> io::Result<()> {
+        let mut left = bytes;
+        self.fill(at..at + bytes.len(), &mut |_, into| {
+            let (piece, rest) = left.split_at(into.len());
+            into.copy_from_slice(piece);
+            left = rest;
+            Ok(())
+        })
+    }
+
     /// Gives the memory of a part back, where it lies past records 1 to N. The part reads as zeros then.
     pub fn forget(&mut self, part: &Span) {
         let from = (part.start / self.page * self.page).max(self.head.next_multiple_of(self.page));
@@ -106,11 +117,18 @@ impl Window {
         if job.saves() { before * l..(before + len.div_ceil(l)) * l } else { 0..0 }
     }
 
-    /// What is lent to a step of a job, with the job's data records opened. A step writes the record that it names and
-    /// nothing else: record 1 or an index record, which were read in, or a data record of the job. To write anywhere else
-    /// would end the program.
+    /// The records that a job writes zeros over: those of the scan that it replaces or clears, if there is one.
+    pub fn old_of(&self, job: &Job) -> Span {
+        let (before, l) = (job.old_first().saturating_sub(1) as usize, self.record_len().max(1));
+        before * l..(before + job.old_count() as usize) * l
+    }
+
+    /// What is lent to a step of a job, with the job's data records and those of the old scan opened. A step writes the
+    /// record that it names and nothing else: record 1 or an index record, which were read in, a data record of the job, or
+    /// one of the old scan. To write anywhere else would end the program.
     pub fn lend_for(&mut self, job: &Job) -> io::Result<&mut [u8]> {
         self.open(&self.data_of(job))?;
+        self.open(&self.old_of(job))?;
         // SAFETY: the mapping, which lives as long as `self` and is borrowed alone.
         Ok(unsafe { std::slice::from_raw_parts_mut(self.at(0), self.len) })
     }

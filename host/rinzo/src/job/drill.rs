@@ -3,7 +3,7 @@
 //! `RINZO_DRILL=stop:I` ends the process, as a power cut would, once I records
 //! are written (0: before the first). `RINZO_DRILL=pause:I` holds it there, to
 //! be ended from outside, and `RINZO_DRILL=wait:I` until its standard input
-//! ends. A conversion counts otherwise: 0 nothing is written, 1 all of it is,
+//! ends. A conversion and a sweep count otherwise: 0 nothing is written, 1 all of it is,
 //! 2 it was compared. Without the variable this does nothing.
 
 use crate::file::sys;

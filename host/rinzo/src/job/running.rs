@@ -2,6 +2,7 @@
 
 use super::drill::Drill;
 use super::interrupt;
+use super::left;
 use crate::file::device::{Device, Way};
 use crate::file::lent::{Lent, cannot_be_read, read_back};
 use crate::say::failure::Failure;
@@ -95,7 +96,7 @@ impl<'a> Running<'a> {
         let progress = Progress::of_bytes(out, "reading back");
         let mut driven = Driven { device, way: Way::Direct, progress };
         let ended = drive::run(&mut driven, memory, self.scan, job, |wrote| {
-            told(out, wrote);
+            told(out, wrote, &job);
             drill.reached(wrote.written);
             if interrupt::noted() { ControlFlow::Break(()) } else { ControlFlow::Continue(()) }
         });
@@ -152,8 +153,8 @@ impl<'a> Running<'a> {
         }
     }
 
-    /// What the file shows after a job that was dropped, and what to do. No step writes into the records of a listed
-    /// scan, so a slot that has the entry it had shows what it did.
+    /// What the file shows after a job that was dropped, what is left of the job in it, and what to do. No step writes into
+    /// the records of a listed scan, so a slot that has the entry it had shows what it did.
     fn what_it_shows(&self) -> String {
         let slot = self.job.slot();
         let Ok((window, _)) = read_back(&self.lent.device, self.out) else {
@@ -167,20 +168,24 @@ impl<'a> Running<'a> {
             return format!("{length}the file no longer opens, refused {}: {why}", why.number());
         }
         let now = sdd::entry(window.bytes(), slot).ok();
-        length
-            + &match (now == self.before, now) {
-                (true, Some(_)) => format!("slot {slot} shows the scan that it had before: do it again"),
-                (true, None) => format!("slot {slot} is empty as before: do it again"),
-                (false, Some(_)) => format!(
-                    "slot {slot} shows the new scan, which is not confirmed: list the file, and save the scan to slot {slot} once more; to keep it again would put it into two slots"
-                ),
-                (false, None) => {
-                    format!(
-                        "slot {slot} is empty now, which is not confirmed: list the file{}",
-                        used_in(window.bytes())
-                    )
-                }
+        let is_reached = now != self.before;
+        let shows = match (is_reached, now) {
+            (false, Some(_)) => format!("slot {slot} shows the scan that it had before: do it again"),
+            (false, None) => format!("slot {slot} is empty as before: do it again"),
+            (true, Some(_)) => format!(
+                "slot {slot} shows the new scan, which is not confirmed: list the file, and save the scan to slot {slot} once more; to keep it again would put it into two slots"
+            ),
+            (true, None) => {
+                format!("slot {slot} is empty now, which is not confirmed: list the file{}", used_in(window.bytes()))
             }
+        };
+        let device = &self.lent.device;
+        let left = if is_reached {
+            left::of_old_scan(device, &window, &self.job)
+        } else {
+            left::of_new_scan(device, &window, &self.job)
+        };
+        format!("{length}{shows}{left}")
     }
 }
 
@@ -194,14 +199,19 @@ fn no_memory(device: &Device, error: &io::Error) -> Failure {
     Failure::Io(format!("{}: there is no memory for the job's records: {error}", shown::name(device.path())))
 }
 
-/// A record that is on the device.
-fn told(out: &Out, Wrote { record, written, of }: Wrote) {
+/// A record that is on the device. The last writes of a job are the zeros over the scan that it replaces or clears.
+fn told(out: &Out, Wrote { record, written, of }: Wrote, job: &Job) {
+    let zeros = written + job.old_count() > of;
     out.progress(
-        || format!("record {record} written ({written} of {of})"),
+        || {
+            let what = if zeros { "with zeros over the old scan " } else { "" };
+            format!("record {record} written {what}({written} of {of})")
+        },
         || {
             let numbers = [("record", record), ("written", written), ("of", of)];
             let mut fields = vec![("event", Json::text("record"))];
             fields.extend(numbers.map(|(name, number)| (name, Json::number(number))));
+            fields.push(("zeros", Json::truth(zeros)));
             Json::Object(fields)
         },
     );

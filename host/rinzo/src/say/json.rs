@@ -6,7 +6,7 @@ use std::path::Path;
 
 /// A JSON value.
 pub enum Json {
-    /// A number or `null`, already spelt.
+    /// A number, `true`, `false` or `null`, already spelt.
     Plain(String),
     /// A string.
     Text(String),
@@ -20,6 +20,11 @@ impl Json {
     /// A whole number.
     pub fn number(number: impl Into<i128>) -> Json {
         Json::Plain(number.into().to_string())
+    }
+
+    /// Yes or no.
+    pub fn truth(truth: bool) -> Json {
+        Json::Plain(truth.to_string())
     }
 
     /// A string.

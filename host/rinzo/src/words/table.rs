@@ -41,6 +41,7 @@ pub enum Verb {
     Read,
     Save,
     Show,
+    Sweep,
 }
 
 /// A command.
@@ -117,9 +118,19 @@ const CLEAR_DETAILS: &str =
     "A clear that did not say `cleared`: list the file first. Where the slot is listed, clear it again; where it is
 not, it is empty, and the next save or clear sets the used number right.";
 
+/// Of what is done to the scan that a slot had.
+const ZEROS_DETAILS: &str =
+    "At its end the records of the scan that the slot had become zeros. After a cut some may be left: `rinzo check`
+says so, no later job zeroes them, and `rinzo sweep` makes a copy of the file without them.";
+
 const USED_DETAILS: &str =
     "After a cut the used number may be higher than the highest slot with a scan. Then a line says so; it is no
 damage, and the next save or clear sets it right.";
+
+/// Of what `check` says of the gaps.
+const GAPS_DETAILS: &str =
+    "Jobs that were confirmed leave zeros in data records that belong to no scan. Where some are not zeros, a line
+says how many; it is no damage, but what they hold can be read. `rinzo sweep` makes a copy without it.";
 
 /// Of every command that reads a scan.
 const READ_DETAILS: &str =
@@ -141,13 +152,21 @@ const CONVERT_DETAILS: &str =
     "Bootstrap and index are written in the other form; the scans are the same bytes. FILE stays as it is.
 The new file has its name only once it was read back, opens, and shows the same list, entries and scans.";
 
+const SWEEP_DETAILS: &str =
+    "Data records that belong to no scan become zeros; all else is the same bytes, and FILE stays as it is.
+The new file has its name only once it was read back, opens, and shows the same list, entries and scans.";
+
+const LEFT_DETAILS: &str =
+    "What was left there is of a scan that was replaced or cleared, or of a save that was cut; no later job zeroes
+it, and `rinzo check` says whether there is any. Files of both forms are swept.";
+
 /// Of what cannot be converted.
 const NOT_CONVERTED_DETAILS: &str =
     "Refused with 19: a file that has the form already, that holds individual records, that has a scan which is
 not SDD version 1, or a number too large for the old form. The sentence says which it is.";
 
 /// All commands, in the order of the overview.
-pub static COMMANDS: [Command; 15] = [
+pub static COMMANDS: [Command; 16] = [
     Command {
         name: "list",
         verb: Verb::List,
@@ -163,7 +182,11 @@ pub static COMMANDS: [Command; 15] = [
         group: Group::Look,
         words: &["FILE..."],
         summary: "judge a file: its form, index and sizes, and with --scans its scans",
-        details: &["Scans that an old file says are not SDD version 1 are listed, and are no damage.", USED_DETAILS],
+        details: &[
+            "Scans that an old file says are not SDD version 1 are listed, and are no damage.",
+            USED_DETAILS,
+            GAPS_DETAILS,
+        ],
         options: &[&[flag("scans", "read every scan too, and list each that breaks a rule; status 11 where one does")]],
     },
     Command {
@@ -208,7 +231,7 @@ pub static COMMANDS: [Command; 15] = [
         group: Group::Change,
         words: &["FILE", "SLOT", "SCAN"],
         summary: "save a scan to a slot; over another scan only with --replace",
-        details: &[SAVE_DETAILS, OLD_DETAILS, ABOUT_DETAILS],
+        details: &[SAVE_DETAILS, ZEROS_DETAILS, OLD_DETAILS, ABOUT_DETAILS],
         options: &[&[flag("replace", "lose the scan that the slot has")], &ABOUT],
     },
     Command {
@@ -229,6 +252,7 @@ pub static COMMANDS: [Command; 15] = [
         details: &[
             "Where standard input is no terminal nobody can be asked, and --yes has to be given.",
             CLEAR_DETAILS,
+            ZEROS_DETAILS,
             OLD_DETAILS,
         ],
         options: &[&[flag("yes", "clear the slot without a question")]],
@@ -252,6 +276,15 @@ pub static COMMANDS: [Command; 15] = [
         summary: "make a second file of the old or the current form, --to FORM --out FILE",
         details: &[CONVERT_DETAILS, NOT_CONVERTED_DETAILS],
         options: &[&CONVERT],
+    },
+    Command {
+        name: "sweep",
+        verb: Verb::Sweep,
+        group: Group::Make,
+        words: &["FILE", "NEW"],
+        summary: "make a second file, without what is left in records that belong to no scan",
+        details: &[SWEEP_DETAILS, LEFT_DETAILS],
+        options: &[&[flag("force", "let NEW replace a file")]],
     },
     Command {
         name: "demo",
@@ -310,7 +343,7 @@ pub fn choices(name: &str) -> Option<&'static [&'static str]> {
 
 /// Whether a word or a value, by its name in the table, is a file's.
 pub fn is_file(name: &str) -> bool {
-    matches!(name.trim_matches(['[', ']', '.']), "FILE" | "SCAN" | "DIR")
+    matches!(name.trim_matches(['[', ']', '.']), "FILE" | "NEW" | "SCAN" | "DIR")
 }
 
 /// What ends a run: the status, and when.

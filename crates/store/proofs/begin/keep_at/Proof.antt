@@ -1,5 +1,5 @@
 use Rattle.paper.proofs.Opening.{change-sound}
-use Rattle.store.proofs.Rooms.{empty-there}
+use Rattle.store.proofs.Rooms.{empty-there, kept-there}
 use Rattle.store.proofs.Starting.{keep-none, keep-on}
 use mathlib.Core.Path.{refl}
 use borrow.Author.Needs.{needs}
@@ -19,5 +19,5 @@ keep-at-spec =
     (λ c κs. let s = c .before .before .before .before in (change-sound _ (s .pre .opens) .booted .ranged, s .pre .wide))
     (λ c κs. search needs)
     returns
-    (λ c κs. c .before .before .before .before .before .before .pre)
+    (λ c κs. let s = c .before .before .before .before .before .before in let a = s .args in (s .pre, kept-there (a .file .now) (a .z) (a .row .now) (a .marks .now) (s .pre) _ (c .before .lowest-empty .ensures) (c .if1 .left)))
     returns-2)

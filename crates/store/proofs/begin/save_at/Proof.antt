@@ -1,4 +1,4 @@
-use Rattle.store.proofs.Rooms.{opens-shape}
+use Rattle.store.proofs.Rooms.{opens-shape, has-slot}
 use Rattle.store.proofs.Starting.{save-no-slot, save-on}
 use mathlib.Core.Path.{refl, sym, _∙_}
 use borrow.Author.Tests.{not-true, not-false}
@@ -19,5 +19,5 @@ save-at-spec =
     (λ c κs. let s = c .before .before .before .before in opens-shape (s .args .file .now) (s .pre .opens))
     (λ c κs. search needs)
     returns
-    (λ c κs. c .before .before .before .before .before .before .pre)
+    (λ c κs. let s = c .before .before .before .before .before .before in (s .pre, has-slot (s .args .file .now) (s .pre .opens) _ (sym (c .before .has-slot .ensures) ∙ not-false _ (c .if1 .left))))
     returns-2)

@@ -74,7 +74,7 @@ pub fn writes_to_index(world: &World, job: &Job) -> u64 {
     job.scan_len.div_ceil(l) + 2
 }
 
-/// How many records a job has to write.
+/// How many records a job has to write, whose old run is one.
 pub fn writes_of(world: &World, job: &Job) -> u64 {
-    writes_to_index(world, job) + u64::from(job.saves == 0 && job.lowers == 1)
+    writes_to_index(world, job) + u64::from(job.saves == 0 && job.lowers == 1) + job.old_count
 }

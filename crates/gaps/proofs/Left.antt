@@ -1,0 +1,100 @@
+-- A record that is left in a gap: where none is so far, where one is, and what the question then answers.
+use Prim.Native.Nat.{ℕ, _+_, _-_, _*_, _≤_, _<_}
+use mathlib.Core.Path.{_≡_, sym, _∙_, ap}
+use mathlib.Core.Bool.{Bool, true, false}
+use mathlib.Core.List.{List, []}
+use native.Mathlib.Omega.{arith}
+use lib.Dec.{eqb}
+use lib.ListN.{length}
+use borrow.Author.Tests.{le-ltb, lt-ltb, eq-eqb, ne-eqb}
+use Rattle.lent.specs.Least.{least, None}
+use Rattle.lent.specs.Same.{same}
+use Rattle.lent.specs.Write.{zeros}
+use Rattle.lent.proofs.Lists.{also-unit, also-false}
+use Rattle.lent.proofs.Leasts.{none-more, least-lowest, least-end}
+use Rattle.lent.proofs.Parts.{length-part}
+use Rattle.marks.specs.Marks.{markOf}
+use Rattle.marks.proofs.Marking.{clear-zeros}
+use Rattle.paper.specs.declared.sizes.Sizes.{Sizes}
+use Rattle.paper.specs.declared.answer.Opened.{Opened}
+use Rattle.paper.specs.declared.refusal.Refusal.{Refusal}
+use Rattle.paper.specs.declared.answer.Opened.the-variants.{Opens, Refused}
+use Rattle.paper.specs.Sizes.{startOf}
+use Rattle.paper.specs.Index.{runOf, sharer, bootOf, openOf, Booted}
+use Rattle.paper.specs.Store.{runFrom}
+use Rattle.paper.specs.Gaps.{recordAt, leftAt, gapsZero}
+use Rattle.paper.proofs.Sizing.{less, times}
+use Rattle.paper.proofs.Opening.{common-shares, sharer-none, boot-sound, open-index, index-same}
+use Rattle.entries.specs.Row.{rowRun, Runs}
+use Rattle.entries.proofs.Rows.{sharer-same, holder-same}
+use Rattle.index.specs.Judging.{Decoded, Shows, Looked}
+use Rattle.gaps.specs.Held.{Held}
+
+module _ (f : List ℕ) (z : Sizes) where
+  -- marks of the row's scans, and no marks
+  pub held : {row ws : List ℕ} → Runs f z row (z .u) → Shows ws (z .n) (rowRun row) (z .u) → Held f z ws
+  held {row} h s = record { scan = λ x l m. holder-same (runOf f z) (rowRun row) (z .u) x (λ t a b. sym (h .run t a b)) (s .only x l m) }
+
+  pub held-none : Held f z []
+  held-none = record { scan = λ x l m. absurd (clear-zeros 0 .none x m) }
+
+  -- the records of bootstrap and index, and one data record more
+  pub left-index : (i : ℕ) → i ≤ z .n → None (leftAt f z) i
+  unfolding leftAt
+  left-index i h = record { none = λ s a b. rw (le-ltb (z .n) s (omega arith)) }
+
+  pub left-next : (r : ℕ) → z .n < r → None (leftAt f z) (r - 1) → leftAt f z r ≡ false → None (leftAt f z) (r + 1 - 1)
+  left-next r l h t =
+      let e : r - 1 + 1 ≡ r = omega arith in
+      let g : r + 1 - 1 ≡ r - 1 + 1 = omega arith in
+      rw g (none-more h (rw e t))
+
+  -- a data record: in the file, and what it is found to be
+  module _ (b : Booted f z) (r : ℕ) (past : z .n < r) (within : r ≤ z .n + z .d) where
+    pub record-in : startOf z r + z .l ≤ length f
+    record-in = omega (arith, less r (z .l) (omega arith), times r (z .n + z .d) (z .l) within, b .held)
+
+    pub left-listed : {ws : List ℕ} → Held f z ws → markOf ws r ≡ 1 → false ≡ leftAt f z r
+    unfolding leftAt
+    left-listed h m =
+        let s = h .scan r past m in
+        let n = ne-eqb _ 0 (λ q. sharer-none (runOf f z) (runFrom r 1) (z .u) q (s .slot) (s .low) (s .high)
+        (common-shares (runFrom r 1) (runOf f z (s .slot)) r (omega arith) (omega arith) (omega arith) (s .from) (s .to))) in
+        rw (lt-ltb (z .n) r past, n)
+
+    module _ (t : Bool) (e : t ≡ same (recordAt f z r) (zeros (length (recordAt f z r)))) where
+      zeros-are : same (recordAt f z r) (zeros (z .l)) ≡ t
+      zeros-are = let l : length (recordAt f z r) ≡ z .l = length-part (startOf z r) (startOf z r + z .l) f record-in ∙ omega arith in sym (rw l at e)
+
+      pub left-zero : t ≡ true → false ≡ leftAt f z r
+      unfolding leftAt
+      left-zero q = rw (lt-ltb (z .n) r past, zeros-are, q) (sym (also-false (eqb (sharer (runOf f z) (runFrom r 1) (z .u)) 0)))
+
+      pub left-else : t ≡ false → (row : List ℕ) → Runs f z row (z .u) → (k : ℕ) → k ≡ sharer (rowRun row) (record { first = r; last = r }) (z .u) → eqb k 0 ≡ leftAt f z r
+      unfolding leftAt
+      left-else q row h k d =
+          let e : r + 1 - 1 ≡ r = omega arith in
+          let s : k ≡ sharer (runOf f z) (runFrom r 1) (z .u) = d ∙ ap (λ (x : ℕ). sharer (rowRun row) (record { first = r; last = x }) (z .u)) (sym e) ∙ sharer-same z (rowRun row) (runOf f z) (z .u) (h .run) (runFrom r 1) (z .u) (omega arith) in
+          rw (lt-ltb (z .n) r past, zeros-are, q, ← s) (sym (also-unit (eqb k 0)))
+
+  -- what is answered where a record is left, and where none is
+  pub gaps-no : (r : ℕ) → z .n < r → r ≤ z .n + z .d → None (leftAt f z) (r - 1) → leftAt f z r ≡ true → false ≡ gapsZero f z
+  unfolding gapsZero
+  gaps-no r l m h t =
+      let e = least-lowest {n = z .n + z .d} (record { low = omega arith; high = m; takes = t; below = λ s a b. h .none s a (omega arith) }) in
+      sym (ne-eqb (least (leftAt f z) (z .n + z .d)) 0 (λ q. omega arith))
+
+  pub gaps-yes : (i : ℕ) → z .n + z .d ≤ i → None (leftAt f z) i → true ≡ gapsZero f z
+  unfolding gapsZero
+  gaps-yes i l h = sym (eq-eqb _ 0 (least-end h l))
+
+-- what the judgement leaves: whether the file opens, and the row of its runs
+module _ {f row ws : List ℕ} {z : Sizes} {o : Opened} (b : bootOf f ≡ Opens z) (l : Looked f z row ws o) where
+  pub looked-refused : {r : Refusal} → o ≡ Refused r → openOf f ≡ Refused r
+  looked-refused q = open-index f b ∙ sym (l .is) ∙ q
+
+  pub looked-opens : {y : Sizes} → o ≡ Opens y → openOf f ≡ Opens z
+  looked-opens {y} q = open-index f b ∙ sym (l .is) ∙ q ∙ ap Opens (sym (index-same z y (runOf f z) (sym (l .is) ∙ q)))
+
+  pub decoded : 2 * z .u ≤ length row → Decoded f z row (z .u)
+  decoded w = record { booted = boot-sound b; wide = w; most = omega arith; runs = l .runs }
