@@ -3,17 +3,18 @@ use Prim.Native.Nat.{ℕ, _+_, _-_, _*_, _≤_, _<_}
 use mathlib.Core.Path.{_≡_, sym, _∙_, ap}
 use mathlib.Core.Bool.{Bool, true, false}
 use mathlib.Core.List.{List, []}
+use mathlib.Core.Logic.{⊎-elim}
 use native.Mathlib.Omega.{arith}
 use lib.Dec.{eqb}
 use lib.ListN.{length}
 use borrow.Author.Tests.{le-ltb, lt-ltb, eq-eqb, ne-eqb}
-use Rattle.lent.specs.Least.{least, None}
+use Rattle.lent.specs.Least.{least}
 use Rattle.lent.specs.Same.{same}
 use Rattle.lent.specs.Write.{zeros}
-use Rattle.lent.proofs.Lists.{also-unit, also-false}
-use Rattle.lent.proofs.Leasts.{none-more, least-lowest, least-end}
+use Rattle.lent.proofs.Lists.{lt-or-ge, also-unit, also-false}
+use Rattle.lent.proofs.Leasts.{least-none, least-lowest}
 use Rattle.lent.proofs.Parts.{length-part}
-use Rattle.marks.specs.Marks.{markOf}
+use Rattle.marks.specs.Marks.{markOf, Full}
 use Rattle.marks.proofs.Marking.{clear-zeros}
 use Rattle.paper.specs.declared.sizes.Sizes.{Sizes}
 use Rattle.paper.specs.declared.answer.Opened.{Opened}
@@ -28,7 +29,7 @@ use Rattle.paper.proofs.Opening.{common-shares, sharer-none, boot-sound, open-i
 use Rattle.entries.specs.Row.{rowRun, Runs}
 use Rattle.entries.proofs.Rows.{sharer-same, holder-same}
 use Rattle.index.specs.Judging.{Decoded, Shows, Looked}
-use Rattle.gaps.specs.Held.{Held}
+use Rattle.gaps.specs.Held.{Held, Swept, Next}
 
 module _ (f : List ℕ) (z : Sizes) where
   -- marks of the row's scans, and no marks
@@ -38,29 +39,23 @@ module _ (f : List ℕ) (z : Sizes) where
   pub held-none : Held f z []
   held-none = record { scan = λ x l m. absurd (clear-zeros 0 .none x m) }
 
-  -- the records of bootstrap and index, and one data record more
-  pub left-index : (i : ℕ) → i ≤ z .n → None (leftAt f z) i
+  -- the walk begins after bootstrap and index, and goes on
+  pub swept-start : (r : ℕ) → r ≡ z .n + 1 → Swept f z r
   unfolding leftAt
-  left-index i h = record { none = λ s a b. rw (le-ltb (z .n) s (omega arith)) }
+  swept-start r e = record { past = omega arith; none = λ s a b. rw (le-ltb (z .n) s (omega arith)) }
 
-  pub left-next : (r : ℕ) → z .n < r → None (leftAt f z) (r - 1) → leftAt f z r ≡ false → None (leftAt f z) (r + 1 - 1)
-  left-next r l h t =
-      let e : r - 1 + 1 ≡ r = omega arith in
-      let g : r + 1 - 1 ≡ r - 1 + 1 = omega arith in
-      rw g (none-more h (rw e t))
+  pub swept-next : {r x : ℕ} → Swept f z r → Next f z r x → (x ≡ 0 → ⊥) → Swept f z x
+  swept-next {r} {x} w h ne =
+      let x₁ : 0 < x = ⊎-elim (λ (a : 0 < x). a) (λ (a : x ≤ 0). absurd (ne (omega arith))) (lt-or-ge 0 x) in
+      record {
+        past = omega (arith, w .past, h .on x₁);
+        none = λ s a b. ⊎-elim (λ (k : s < r). w .none s k b) (λ (k : r ≤ s). h .none x₁ s k a b) (lt-or-ge s r);
+      }
 
   -- a data record: in the file, and what it is found to be
   module _ (b : Booted f z) (r : ℕ) (past : z .n < r) (within : r ≤ z .n + z .d) where
     pub record-in : startOf z r + z .l ≤ length f
     record-in = omega (arith, less r (z .l) (omega arith), times r (z .n + z .d) (z .l) within, b .held)
-
-    pub left-listed : {ws : List ℕ} → Held f z ws → markOf ws r ≡ 1 → false ≡ leftAt f z r
-    unfolding leftAt
-    left-listed h m =
-        let s = h .scan r past m in
-        let n = ne-eqb _ 0 (λ q. sharer-none (runOf f z) (runFrom r 1) (z .u) q (s .slot) (s .low) (s .high)
-        (common-shares (runFrom r 1) (runOf f z (s .slot)) r (omega arith) (omega arith) (omega arith) (s .from) (s .to))) in
-        rw (lt-ltb (z .n) r past, n)
 
     module _ (t : Bool) (e : t ≡ same (recordAt f z r) (zeros (length (recordAt f z r)))) where
       zeros-are : same (recordAt f z r) (zeros (z .l)) ≡ t
@@ -77,16 +72,42 @@ module _ (f : List ℕ) (z : Sizes) where
           let s : k ≡ sharer (runOf f z) (runFrom r 1) (z .u) = d ∙ ap (λ (x : ℕ). sharer (rowRun row) (record { first = r; last = x }) (z .u)) (sym e) ∙ sharer-same z (rowRun row) (runOf f z) (z .u) (h .run) (runFrom r 1) (z .u) (omega arith) in
           rw (lt-ltb (z .n) r past, zeros-are, q, ← s) (sym (also-unit (eqb k 0)))
 
-  -- what is answered where a record is left, and where none is
-  pub gaps-no : (r : ℕ) → z .n < r → r ≤ z .n + z .d → None (leftAt f z) (r - 1) → leftAt f z r ≡ true → false ≡ gapsZero f z
-  unfolding gapsZero
-  gaps-no r l m h t =
-      let e = least-lowest {n = z .n + z .d} (record { low = omega arith; high = m; takes = t; below = λ s a b. h .none s a (omega arith) }) in
-      sym (ne-eqb (least (leftAt f z) (z .n + z .d)) 0 (λ q. omega arith))
+  -- a marked record is in a scan
+  left-listed : {ws : List ℕ} → Held f z ws → (r : ℕ) → z .n < r → markOf ws r ≡ 1 → leftAt f z r ≡ false
+  unfolding leftAt
+  left-listed h r past m =
+      let s = h .scan r past m in
+      let n = ne-eqb _ 0 (λ q. sharer-none (runOf f z) (runFrom r 1) (z .u) q (s .slot) (s .low) (s .high)
+      (common-shares (runFrom r 1) (runOf f z (s .slot)) r (omega arith) (omega arith) (omega arith) (s .from) (s .to))) in
+      rw (lt-ltb (z .n) r past, n)
 
-  pub gaps-yes : (i : ℕ) → z .n + z .d ≤ i → None (leftAt f z) i → true ≡ gapsZero f z
+  -- the three ways on
+  pub next-marked : {ws : List ℕ} → Held f z ws → (r x : ℕ) → z .n < r → markOf ws r ≡ 1 → Full ws (r + 1) x → Next f z r x
+  next-marked h r x past m u =
+      record {
+        left = λ e. absurd (omega (arith, u .low));
+        on = λ a. omega (arith, u .low);
+        none = λ a s lo hi w.
+            ⊎-elim (λ (k : r < s). left-listed h s (omega arith) (u .marked s (omega arith) hi)) (λ (k : s ≤ r). let e : s ≡ r = omega arith in rw e (left-listed h r past m)) (lt-or-ge r s);
+      }
+
+  pub next-left : (r : ℕ) → leftAt f z r ≡ true → Next f z r 0
+  next-left r e = record { left = λ q. e; on = λ a. absurd (omega arith); none = λ a s lo hi w. absurd (omega arith) }
+
+  pub next-one : (r : ℕ) → leftAt f z r ≡ false → Next f z r (r + 1)
+  next-one r e =
+      record { left = λ q. absurd (omega arith); on = λ a. omega arith; none = λ a s lo hi w. let q : s ≡ r = omega arith in rw q e }
+
+  -- what is answered where a record is left, and where none is
+  pub gaps-no : {r : ℕ} → Swept f z r → r ≤ z .n + z .d → leftAt f z r ≡ true → false ≡ gapsZero f z
   unfolding gapsZero
-  gaps-yes i l h = sym (eq-eqb _ 0 (least-end h l))
+  gaps-no {r} w m t =
+      let e = least-lowest {n = z .n + z .d} (record { low = omega (arith, w .past); high = m; takes = t; below = λ s a b. w .none s b (omega arith) }) in
+      sym (ne-eqb (least (leftAt f z) (z .n + z .d)) 0 (λ q. omega (arith, w .past)))
+
+  pub gaps-yes : {r : ℕ} → Swept f z r → z .n + z .d < r → true ≡ gapsZero f z
+  unfolding gapsZero
+  gaps-yes w l = sym (eq-eqb _ 0 (least-none (record { none = λ s a b. w .none s (omega arith) b })))
 
 -- what the judgement leaves: whether the file opens, and the row of its runs
 module _ {f row ws : List ℕ} {z : Sizes} {o : Opened} (b : bootOf f ≡ Opens z) (l : Looked f z row ws o) where

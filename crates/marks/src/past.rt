@@ -62,7 +62,7 @@ fn past_words(marks: &[u64], from: usize) -> usize
 }
 
 // The end of the marked records from `a` on: the rest of a word, whole words, the front of a word.
-fn past_ones(marks: &[u64], a: usize) -> usize
+pub fn past_ones(marks: &[u64], a: usize) -> usize
     requires { ⌜ a ≤ 1200000 ⌝ }
     ensures { λ r. ⌜ Full (now (marks .entry)) a r ⌝ }
 {

@@ -1,36 +1,31 @@
 use native.Mathlib.Omega.{arith}
-use Rattle.gaps.proofs.Left.{record-in, left-listed, left-zero, left-else}
+use Rattle.gaps.proofs.Left.{record-in, left-zero, left-else}
 use borrow.Author.Needs.{needs}
 use Rattle.gaps.proofs.walk.left.Statement.{statement}
 use Rattle.gaps.proofs.walk.left.Tie as tie
 
-returns : tie.Need-returns
-returns c = let p = c .before .before .before .before .before .pre in left-listed _ _ (p .0 .0 .booted) _ (p .1 .0) (p .1 .1) (p .0 .1) (c .before .taken .ensures (c .if1 .taken))
-
 mul-at : tie.Need-mul-at
-mul-at c = let p = c .before .before .before .before .before .before .pre in omega (arith, record-in _ _ (p .0 .0 .booted) _ (p .1 .0) (p .1 .1))
+mul-at c = let p = c .before .before .before .pre in omega (arith, record-in _ _ (p .0 .booted) _ (p .1 .0) (p .1 .1))
 
 add-all-zero : tie.Need-add-all-zero
-add-all-zero c = let p = c .before .before .before .before .before .before .before .pre in omega (arith, record-in _ _ (p .0 .0 .booted) _ (p .1 .0) (p .1 .1))
+add-all-zero c = let p = c .before .before .before .before .pre in omega (arith, record-in _ _ (p .0 .booted) _ (p .1 .0) (p .1 .1))
 
 part-all-zero-end : tie.Need-part-all-zero-end
-part-all-zero-end c = let p = c .before .before .before .before .before .before .before .pre in omega (arith, record-in _ _ (p .0 .0 .booted) _ (p .1 .0) (p .1 .1))
+part-all-zero-end c = let p = c .before .before .before .before .pre in omega (arith, record-in _ _ (p .0 .booted) _ (p .1 .0) (p .1 .1))
 
-returns-2 : tie.Need-returns-2
-returns-2 c = let p = c .before .before .before .before .before .before .before .before .before .before .pre in left-zero _ _ (p .0 .0 .booted) _ (p .1 .0) (p .1 .1) _ (c .before .all-zero .ensures) (c .if2 .taken)
+returns : tie.Need-returns
+returns c = let p = c .before .before .before .before .before .before .before .pre in left-zero _ _ (p .0 .booted) _ (p .1 .0) (p .1 .1) _ (c .before .all-zero .ensures) (c .if1 .taken)
 
 sharer-requires : tie.Need-sharer-requires
-sharer-requires c κs = let d = c .before .before .before .before .before .before .before .before .before .before .pre .0 .0 in (d .wide, omega (arith, d .booted .ranged .used, d .booted .ranged .shape .slots))
+sharer-requires c κs = let d = c .before .before .before .before .before .before .before .pre .0 in (d .wide, omega (arith, d .booted .ranged .used, d .booted .ranged .shape .slots))
 
-returns-3 : tie.Need-returns-3
-returns-3 c = let p = c .before .before .before .before .before .before .before .before .before .before .before .pre in left-else _ _ (p .0 .0 .booted) _ (p .1 .0) (p .1 .1) _ (c .before .before .all-zero .ensures) (c .before .if2 .left) _ (p .0 .0 .runs) _ (c .sharer .ensures)
+returns-2 : tie.Need-returns-2
+returns-2 c = let p = c .before .before .before .before .before .before .before .before .pre in left-else _ _ (p .0 .booted) _ (p .1 .0) (p .1 .1) _ (c .before .before .all-zero .ensures) (c .before .if1 .left) _ (p .0 .runs) _ (c .sharer .ensures)
 
 pub left-spec : {M : Type 1} → statement M
 left-spec =
     tie.close
     (tie.spec
-    (λ c κs. search needs)
-    returns
     (λ c. search needs)
     mul-at
     add-all-zero
@@ -38,6 +33,6 @@ left-spec =
     (λ c. search needs)
     part-all-zero-end
     (λ c κs. search needs)
-    returns-2
+    returns
     sharer-requires
-    returns-3)
+    returns-2)
