@@ -7,13 +7,13 @@ use mathlib.Core.Logic.{⊎-elim}
 use native.Mathlib.Omega.{arith}
 use lib.Dec.{eqb}
 use lib.ListN.{length}
-use borrow.Author.Tests.{le-ltb, lt-ltb, eq-eqb, ne-eqb}
-use Rattle.lent.specs.Least.{least}
+use borrow.Author.Tests.{le-ltb, lt-ltb, eq-eqb}
 use Rattle.lent.specs.Same.{same}
 use Rattle.lent.specs.Write.{zeros}
-use Rattle.lent.proofs.Lists.{lt-or-ge, also-unit, also-false}
-use Rattle.lent.proofs.Leasts.{least-none, least-lowest}
+use Rattle.lent.proofs.Lists.{lt-or-ge, also-unit}
+use Rattle.lent.proofs.Leasts.{least-none}
 use Rattle.lent.proofs.Parts.{length-part}
+use Rattle.lent.proofs.Sames.{same-true}
 use Rattle.marks.specs.Marks.{markOf, Full}
 use Rattle.marks.proofs.Marking.{clear-zeros}
 use Rattle.paper.specs.declared.sizes.Sizes.{Sizes}
@@ -25,7 +25,8 @@ use Rattle.paper.specs.Index.{runOf, sharer, bootOf, openOf, Booted}
 use Rattle.paper.specs.Store.{runFrom}
 use Rattle.paper.specs.Gaps.{recordAt, leftAt, gapsZero}
 use Rattle.paper.proofs.Sizing.{less, times}
-use Rattle.paper.proofs.Opening.{common-shares, sharer-none, boot-sound, open-index, index-same}
+use Rattle.paper.proofs.Opening.{boot-sound, open-index, index-same}
+use Rattle.paper.proofs.Gaps.{left-facts, zeros-not-left, listed-not-left, false-gaps}
 use Rattle.entries.specs.Row.{rowRun, Runs}
 use Rattle.entries.proofs.Rows.{sharer-same, holder-same}
 use Rattle.index.specs.Judging.{Decoded, Shows, Looked}
@@ -62,8 +63,7 @@ module _ (f : List ℕ) (z : Sizes) where
       zeros-are = let l : length (recordAt f z r) ≡ z .l = length-part (startOf z r) (startOf z r + z .l) f record-in ∙ omega arith in sym (rw l at e)
 
       pub left-zero : t ≡ true → false ≡ leftAt f z r
-      unfolding leftAt
-      left-zero q = rw (lt-ltb (z .n) r past, zeros-are, q) (sym (also-false (eqb (sharer (runOf f z) (runFrom r 1) (z .u)) 0)))
+      left-zero q = sym (zeros-not-left f z r within (same-true _ _ (zeros-are ∙ q)))
 
       pub left-else : t ≡ false → (row : List ℕ) → Runs f z row (z .u) → (k : ℕ) → k ≡ sharer (rowRun row) (record { first = r; last = r }) (z .u) → eqb k 0 ≡ leftAt f z r
       unfolding leftAt
@@ -73,13 +73,8 @@ module _ (f : List ℕ) (z : Sizes) where
           rw (lt-ltb (z .n) r past, zeros-are, q, ← s) (sym (also-unit (eqb k 0)))
 
   -- a marked record is in a scan
-  left-listed : {ws : List ℕ} → Held f z ws → (r : ℕ) → z .n < r → markOf ws r ≡ 1 → leftAt f z r ≡ false
-  unfolding leftAt
-  left-listed h r past m =
-      let s = h .scan r past m in
-      let n = ne-eqb _ 0 (λ q. sharer-none (runOf f z) (runFrom r 1) (z .u) q (s .slot) (s .low) (s .high)
-      (common-shares (runFrom r 1) (runOf f z (s .slot)) r (omega arith) (omega arith) (omega arith) (s .from) (s .to))) in
-      rw (lt-ltb (z .n) r past, n)
+  left-marked : {ws : List ℕ} → Held f z ws → (r : ℕ) → z .n < r → r ≤ z .n + z .d → markOf ws r ≡ 1 → leftAt f z r ≡ false
+  left-marked h r past w m = let s = h .scan r past m in listed-not-left f z r (s .slot) w (s .low) (s .high) (s .from) (s .to)
 
   -- the three ways on
   pub next-marked : {ws : List ℕ} → Held f z ws → (r x : ℕ) → z .n < r → markOf ws r ≡ 1 → Full ws (r + 1) x → Next f z r x
@@ -88,7 +83,7 @@ module _ (f : List ℕ) (z : Sizes) where
         left = λ e. absurd (omega (arith, u .low));
         on = λ a. omega (arith, u .low);
         none = λ a s lo hi w.
-            ⊎-elim (λ (k : r < s). left-listed h s (omega arith) (u .marked s (omega arith) hi)) (λ (k : s ≤ r). let e : s ≡ r = omega arith in rw e (left-listed h r past m)) (lt-or-ge r s);
+            left-marked h s (omega arith) w (⊎-elim (λ (k : r < s). u .marked s (omega arith) hi) (λ (k : s ≤ r). let e : s ≡ r = omega arith in rw e m) (lt-or-ge r s));
       }
 
   pub next-left : (r : ℕ) → leftAt f z r ≡ true → Next f z r 0
@@ -99,11 +94,8 @@ module _ (f : List ℕ) (z : Sizes) where
       record { left = λ q. absurd (omega arith); on = λ a. omega arith; none = λ a s lo hi w. let q : s ≡ r = omega arith in rw q e }
 
   -- what is answered where a record is left, and where none is
-  pub gaps-no : {r : ℕ} → Swept f z r → r ≤ z .n + z .d → leftAt f z r ≡ true → false ≡ gapsZero f z
-  unfolding gapsZero
-  gaps-no {r} w m t =
-      let e = least-lowest {n = z .n + z .d} (record { low = omega (arith, w .past); high = m; takes = t; below = λ s a b. w .none s b (omega arith) }) in
-      sym (ne-eqb (least (leftAt f z) (z .n + z .d)) 0 (λ q. omega (arith, w .past)))
+  pub gaps-no : (r : ℕ) → r ≤ z .n + z .d → leftAt f z r ≡ true → false ≡ gapsZero f z
+  gaps-no r w t = sym (false-gaps f z r (left-facts f z r w t))
 
   pub gaps-yes : {r : ℕ} → Swept f z r → z .n + z .d < r → true ≡ gapsZero f z
   unfolding gapsZero

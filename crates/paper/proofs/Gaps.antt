@@ -53,6 +53,13 @@ module _ (f : List ℕ) (z : Sizes) where
         ),
       )
 
+  -- so one that is zeros is not, nor one of a listed scan
+  pub zeros-not-left : (r : ℕ) → r ≤ z .n + z .d → recordAt f z r ≡ zeros (z .l) → leftAt f z r ≡ false
+  zeros-not-left r w q = not-so (λ e. left-facts r w e .bytes q)
+
+  pub listed-not-left : (r s : ℕ) → r ≤ z .n + z .d → 1 ≤ s → s ≤ z .u → runOf f z s .first ≤ r → r ≤ runOf f z s .last → leftAt f z r ≡ false
+  listed-not-left r s w a b x y = not-so (λ e. left-facts r w e .gap .unlisted s a b x y)
+
   pub gaps-true : gapsZero f z ≡ true → GapsZero f z
   unfolding gapsZero
   gaps-true e =

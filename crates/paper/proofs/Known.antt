@@ -413,6 +413,7 @@ oldRun =
       counts = refl;
       in-the-index = refl;
       past-the-room = refl;
+      one-past = refl;
       beyond = refl;
       not-looked-at = refl;
       zeros-stand = refl;

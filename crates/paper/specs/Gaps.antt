@@ -44,7 +44,7 @@ pub record InGap (f : List ℕ) (z : Sizes) (r : ℕ) : Type 0 where
   pub within : r ≤ z .n + z .d
   pub unlisted : (s : ℕ) → 1 ≤ s → s ≤ z .u → runOf f z s .first ≤ r → r ≤ runOf f z s .last → ⊥
 
--- what `leftAt f z r ≡ true` says
+-- what `leftAt f z r ≡ true` says of a record up to N+D
 pub record Left (f : List ℕ) (z : Sizes) (r : ℕ) : Type 0 where
   pub gap : InGap f z r
   pub bytes : recordAt f z r ≡ zeros (z .l) → ⊥

@@ -590,6 +590,7 @@ pub record OldRun : Type 0 where
   pub counts : agrees file [] (goneWith 3 3 7) ≡ false
   pub in-the-index : agrees file [] (goneWith 2 1 0) ≡ false
   pub past-the-room : agrees file [] (goneWith 3 4 0) ≡ false
+  pub one-past : agrees file [] (goneWith 6 1 0) ≡ false
   pub beyond : agrees file [] (goneWith 18446744073709551615 2 0) ≡ false
   pub not-looked-at : agrees file [] (goneWith 18446744073709551615 0 0) ≡ true
   -- "and also requires the zeros, else 15"

@@ -55,6 +55,15 @@ module _ (f scan : List ℕ) (j : Job) (r : Stepped) (g : List ℕ) where
     q ∙ sym (step-past f scan j z a (b .reads) w),
   )
 
+-- what follows the entry, by the job's place
+module _ (f : List ℕ) (z : Sizes) (j : Job) where
+  late-lower : j .written < changeOf z j → lateWrite f z j ≡ sizesWrite (lowered f z)
+  late-lower h = rw (lt-ltb (j .written) (changeOf z j) h)
+
+  late-zero : (m : ℕ) → j .written ≡ changeOf z j + m
+      → lateWrite f z j ≡ record { at = startOf z (j .old + m); bytes = zeros (z .l); record-no = j .old + m }
+  late-zero m e = let k : j .written - changeOf z j ≡ m = omega arith in rw (le-ltb (j .written) (changeOf z j) (omega arith), k)
+
 -- a step that writes: from the record's number r and the file g
 module _ (f scan : List ℕ) (j : Job) (r : ℕ) (g : List ℕ) (z : Sizes) (a : agrees f scan j ≡ true) (b : Booted f z) where
   abbrev Written : Type 0
@@ -88,12 +97,10 @@ module _ (f scan : List ℕ) (j : Job) (r : ℕ) (g : List ℕ) (z : Sizes) (a :
   late-step w n p q =
       phases Written z j (j .written) w (λ h. absurd (omega arith)) (λ h. absurd (omega arith)) (λ h. absurd (omega arith))
       (λ h t.
-      let l : lateWrite f z j ≡ sizesWrite (lowered f z) = rw (lt-ltb (j .written) (changeOf z j) (omega (arith, change-lowers z j t))) in
+      let l = late-lower f z j (omega (arith, change-lowers z j t)) in
       wrote-step 1 w (answer-lower f scan j z a e h t) (p ∙ ap (λ (x : Write). x .record-no) l) (q ∙ ap (perform f) l ∙ sym (step-lower f scan j z a e h t)))
       (λ m h t.
-      let k : j .written - changeOf z j ≡ m = omega arith in
-      let l : lateWrite f z j ≡ record { at = startOf z (j .old + m); bytes = zeros (z .l); record-no = j .old + m } =
-      rw (le-ltb (j .written) (changeOf z j) (omega arith), k) in
+      let l = late-zero f z j m h in
       wrote-step (j .old + m) w (answer-zero f scan j z a e m h t) (p ∙ ap (λ (x : Write). x .record-no) l) (q ∙ ap (perform f) l ∙ sym (step-zero f scan j z a e m h t)))
 
 -- which of the two it is; c is how many writes make the change
@@ -103,14 +110,12 @@ module _ (f : List ℕ) (z : Sizes) (j : Job) (r : ℕ) (g : List ℕ) where
 
   pub lower-late : j .written < changeOf z j → r ≡ 1 → g ≡ write f 0 (bootBytes (lowered f z)) → IsLate
   lower-late h p q =
-      let l : lateWrite f z j ≡ sizesWrite (lowered f z) = rw (lt-ltb (j .written) (changeOf z j) h) in
+      let l = late-lower f z j h in
       (p ∙ ap (λ (x : Write). x .record-no) (sym l), q ∙ ap (perform f) (sym l))
 
   pub zero-late : (c : ℕ) → c ≡ changeOf z j → c ≤ j .written → r ≡ j .old + (j .written - c) → g ≡ write f (startOf z (j .old + (j .written - c))) (zeros (z .l)) → IsLate
   zero-late c e h p q =
-      let k : j .written - c ≡ j .written - changeOf z j = ap (λ (x : ℕ). j .written - x) e in
-      let l : lateWrite f z j ≡ record { at = startOf z (j .old + (j .written - c)); bytes = zeros (z .l); record-no = j .old + (j .written - c) } =
-      rw (le-ltb (j .written) (changeOf z j) (omega arith), k) in
+      let l = late-zero f z j (j .written - c) (omega arith) in
       (p ∙ ap (λ (x : Write). x .record-no) (sym l), q ∙ ap (perform f) (sym l))
 
 -- and the record then lies in the file

@@ -16,7 +16,7 @@ after-requires : tie.Need-after-requires Inv-loop μ-loop
 after-requires c κs = (c .before .before .before .before .before .before .before .pre, (c .before .loop .inv .past, omega arith))
 
 returns : tie.Need-returns Inv-loop μ-loop
-returns c = gaps-no _ _ (c .before .before .before .loop .inv) (omega arith) (c .before .after .ensures .left (c .if1 .taken))
+returns c = gaps-no _ _ _ (omega arith) (c .before .after .ensures .left (c .if1 .taken))
 
 loop-less : tie.Need-loop-less Inv-loop μ-loop
 loop-less c = omega (arith, c .before .after .ensures .on (omega arith))
