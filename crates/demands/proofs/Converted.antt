@@ -13,6 +13,7 @@ use Rattle.lent.specs.Checks.{Check, check, Fired, clear, fires, fired, answer,
 use Rattle.lent.specs.Number.{be16, int16}
 use Rattle.lent.specs.Part.{part, Alike}
 use Rattle.lent.specs.Write.{write}
+use Rattle.lent.specs.Lists.{threes}
 use Rattle.lent.proofs.Lists.{same-or, those-same}
 use Rattle.lent.proofs.Parts.{part-same, alike-within}
 use Rattle.lent.proofs.Writes.{drop-write, length-write}
@@ -42,7 +43,7 @@ use Rattle.demands.proofs.Calling.{both, show-same, shows-same, read-sa
 
 -- the lines of a list rest on the runs of its slots
 lines-same : (r q : ℕ → Run) (ss : List ℕ) → ((s : ℕ) → List·Memᴰ s ss → r s ≡ q s) → linesOf r ss ≡ linesOf q ss
-unfolding linesOf
+unfolding threes
 lines-same r q [] h = refl
 lines-same r q (s ∷ ss) h = rw (h s (List·Memᴰ·head refl), lines-same r q ss (λ t m. h t (List·Memᴰ·tail m)))
 

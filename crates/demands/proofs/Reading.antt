@@ -2,20 +2,22 @@
 use Prim.Native.Nat.{ℕ, zero, suc, _+_, _-_, _*_, _/_, _≤_, _<_}
 use mathlib.Core.Path.{_≡_, refl, sym, _∙_, ap, subst}
 use mathlib.Core.Bool.{true, false}
-use mathlib.Core.List.{List, [], _∷_}
+use mathlib.Core.List.{List, [], _∷_, _++_}
 use native.Mathlib.Omega.{arith}
-use native.Mathlib.Nat.{le-div-iff-mul-le, div-lt-iff-lt-mul, zero-add}
+use native.Mathlib.Nat.{le-div-iff-mul-le, div-lt-iff-lt-mul}
 use borrow.Author.Tests.{ltb-false, not-false}
 use lib.Dec.{ltb}
 use lib.ListN.{length, take, drop, getD}
 use lib.Seq.{take-take}
 use Rattle.lent.specs.Number.{be16}
-use Rattle.lent.specs.Checks.{Check, check}
+use Rattle.lent.specs.Lists.{threes}
+use Rattle.lent.specs.Checks.{Check, check, judge}
 use Rattle.lent.specs.Part.{part}
 use Rattle.lent.specs.Write.{write}
 use Rattle.lent.proofs.Checks.{append-clear, clear-all, judge-clear, judge-passed}
 use Rattle.lent.proofs.Parts.{length-part}
-use Rattle.lent.proofs.Writes.{length-write, write-in, write-after}
+use Rattle.lent.proofs.Lists.{length-threes}
+use Rattle.lent.proofs.Writes.{length-write, write-after, threes-in}
 use Rattle.paper.specs.declared.sizes.Sizes.{Sizes}
 use Rattle.paper.specs.declared.sizes.Run.{Run}
 use Rattle.paper.specs.declared.refusal.Refusal.{Refusal}
@@ -28,7 +30,7 @@ use Rattle.paper.specs.declared.answer.Span.the-variants.{Part, Refused}
 use Rattle.paper.specs.Sizes.{sizesOf, versionOf, wordAt, homeOf, startOf}
 use Rattle.paper.specs.Index.{runOf, shownOf, openChecks, Lies, Sound}
 use Rattle.paper.specs.Scan.{classesOf, startsOf, headlen, datalen, classAt, classEnd, ruledOf, ofRuled, classOf, dataOf, Rule, Kept}
-use Rattle.paper.specs.Look.{linesOf, listOf, listChecks, listedOf, listedOut, slotChecks, otherScan, readChecks, showOf, readIn, readOf}
+use Rattle.paper.specs.Look.{listOf, listedOf, listedOut, slotChecks, otherScan, readChecks, showOf, readIn, readOf}
 use Rattle.paper.specs.Entry.{versionOne}
 use Rattle.paper.proofs.Sizing.{home-is, less, times}
 use Rattle.paper.proofs.Forms.{one-facts}
@@ -49,53 +51,60 @@ module _ (f : List ℕ) (z : Sizes) (s : ℕ) where
 
 -- ---- list
 
-length-lines : (run : ℕ → Run) (ss : List ℕ) → length (linesOf run ss) ≡ 3 * length ss
-unfolding linesOf
-length-lines run [] = refl
-length-lines run (s ∷ ss) = omega (arith, length-lines run ss)
+-- three numbers for each element, after checks and then 17: what a call that reports them answers and leaves
+module _ {A : Type 0} (a b c : A → ℕ) (d : A) (cs : List (Check Refusal)) (xs : List A) (out : List ℕ) where
+  abbrev reportChecks : List (Check Refusal)
+  reportChecks = cs ++ (check (ltb (length out) (3 * length xs)) TooSmall ∷ [])
 
--- the three numbers of line i
-lines-at : (run : ℕ → Run) (ss : List ℕ) (i : ℕ) → i < length ss
-    → (getD (linesOf run ss) (3 * i) 0 ≡ getD ss i 0) × (getD (linesOf run ss) (3 * i + 1) 0 ≡ run (getD ss i 0) .first)
-    × (getD (linesOf run ss) (3 * i + 2) 0 ≡ run (getD ss i 0) .last)
-unfolding linesOf
-lines-at run [] i h = absurd (omega arith)
-lines-at run (s ∷ ss) zero h = (refl, refl, refl)
-lines-at run (s ∷ ss) (suc i) h =
-    let p = lines-at run ss i (omega arith) in
-    let a : 3 * suc i ≡ suc (suc (suc (3 * i))) = omega arith in
-    let b : 3 * suc i + 1 ≡ suc (suc (suc (3 * i + 1))) = omega arith in
-    let c : 3 * suc i + 2 ≡ suc (suc (suc (3 * i + 2))) = omega arith in
-    (rw a (p .0), rw b (p .1), rw c (p .2))
+  abbrev left : List ℕ
+  left = judge (λ (r : Refusal). out) reportChecks (write out 0 (threes a b c xs))
+
+  pub record Reported (n : ℕ) : Type 0 where
+    pub count : n ≡ length xs
+    pub one : (i : ℕ) → i < n → getD left (3 * i) 0 ≡ a (getD xs i d)
+    pub two : (i : ℕ) → i < n → getD left (3 * i + 1) 0 ≡ b (getD xs i d)
+    pub three : (i : ℕ) → i < n → getD left (3 * i + 2) 0 ≡ c (getD xs i d)
+    pub beyond : (i : ℕ) → 3 * n ≤ i → getD left i 0 ≡ getD out i 0
+    pub as-long : length left ≡ length out
+
+  pub reported : (n : ℕ) → judge listed.Refused reportChecks (listed.Scans (length xs)) ≡ listed.Scans n → Reported n
+  reported n e =
+      let ls : List ℕ = threes a b c xs in
+      let p = judge-passed listed.Refused reportChecks (listed.Scans (length xs)) (listed.Scans n) (λ r. never r n) e in
+      let k : n ≡ length xs = sym (same (length xs) n (p .1)) in
+      let own : List (Check Refusal) = check (ltb (length out) (3 * length xs)) TooSmall ∷ [] in
+      let q = clear-all own (append-clear cs own (p .0) .1) .0 in
+      let l = length-threes a b c xs in
+      let fits : length ls ≤ length out = omega (arith, ltb-false (length out) (3 * length xs) q) in
+      let w : left ≡ write out 0 ls = judge-clear (λ (r : Refusal). out) reportChecks (write out 0 ls) (p .0) in
+      record {
+        count = k;
+        one = λ i h. rw w (threes-in a b c xs d out i (omega arith) .0);
+        two = λ i h. rw w (threes-in a b c xs d out i (omega arith) .1);
+        three = λ i h. rw w (threes-in a b c xs d out i (omega arith) .2);
+        beyond = λ i h. rw w (write-after out 0 ls (omega arith) i (omega arith));
+        as-long = rw w (length-write out 0 ls (omega arith));
+      }
+    where
+      never : (r : Refusal) (n : ℕ) → listed.Refused r ≡ listed.Scans n → ⊥
+      never r n e = let z : _≡_ {A = ℕ} 0 1 = cc in omega arith
+
+      same : (a b : ℕ) → listed.Scans a ≡ listed.Scans b → a ≡ b
+      same a b e = cc
 
 pub list-lines : ListLines
 unfolding listedOf listedOut
 list-lines f out n e =
     let z : Sizes = sizesOf f in
-    let ls : List ℕ = linesOf (runOf f z) (listOf f) in
-    let p = judge-passed listed.Refused (listChecks f out) (listed.Scans (length (listOf f))) (listed.Scans n) (λ r. never r n) e in
-    let c : n ≡ length (listOf f) = sym (same (length (listOf f)) n (p .1)) in
-    let own : List (Check Refusal) = check (ltb (length out) (3 * length (listOf f))) TooSmall ∷ [] in
-    let q = clear-all own (append-clear (openChecks f) own (p .0) .1) .0 in
-    let l = length-lines (runOf f z) (listOf f) in
-    let fits : length ls ≤ length out = omega (arith, ltb-false (length out) (3 * length (listOf f)) q) in
-    let w : listedOut f out ≡ write out 0 ls = judge-clear (λ (r : Refusal). out) (listChecks f out) (write out 0 ls) (p .0) in
-    let at : (i : ℕ) → i < 3 * n → getD (write out 0 ls) i 0 ≡ getD ls i 0 =
-    λ i h. ap (λ (x : ℕ). getD (write out 0 ls) x 0) (sym (zero-add i)) ∙ write-in out 0 ls (omega arith) i (omega arith) in
+    let r = reported (λ s. s) (λ s. runOf f z s .first) (λ s. runOf f z s .last) 0 (openChecks f) (listOf f) out n e in
     record {
-      count = c;
-      slot = λ i h. rw w (at (3 * i) (omega arith) ∙ lines-at (runOf f z) (listOf f) i (omega arith) .0);
-      first = λ i h. rw w (at (3 * i + 1) (omega arith) ∙ lines-at (runOf f z) (listOf f) i (omega arith) .1 ∙ sym (first-is f z (getD (listOf f) i 0)));
-      last = λ i h. rw w (at (3 * i + 2) (omega arith) ∙ lines-at (runOf f z) (listOf f) i (omega arith) .2 ∙ sym (last-is f z (getD (listOf f) i 0)));
-      beyond = λ i h. rw w (write-after out 0 ls (omega arith) i (omega arith));
-      as-long = rw w (length-write out 0 ls (omega arith));
+      count = r .count;
+      slot = r .one;
+      first = λ i h. r .two i h ∙ sym (first-is f z (getD (listOf f) i 0));
+      last = λ i h. r .three i h ∙ sym (last-is f z (getD (listOf f) i 0));
+      beyond = r .beyond;
+      as-long = r .as-long;
     }
-  where
-    never : (r : Refusal) (n : ℕ) → listed.Refused r ≡ listed.Scans n → ⊥
-    never r n e = let z : _≡_ {A = ℕ} 0 1 = cc in omega arith
-
-    same : (a b : ℕ) → listed.Scans a ≡ listed.Scans b → a ≡ b
-    same a b e = cc
 
 -- ---- spans
 

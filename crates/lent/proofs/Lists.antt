@@ -1,5 +1,5 @@
--- The laws of tests in a row, of `table`, of `every` and of `those`.
-use Prim.Native.Nat.{ℕ, zero, suc, _+_, _≤_, _<_}
+-- The laws of tests in a row, of `table`, of `every`, of `those` and of `threes`.
+use Prim.Native.Nat.{ℕ, zero, suc, _+_, _*_, _≤_, _<_}
 use mathlib.Core.Path.{_≡_, refl, sym, _∙_, ap}
 use mathlib.Core.Bool.{Bool, true, false, cond}
 use mathlib.Core.List.{List, [], _∷_, _++_, append-nil, List·Memᴰ, List·Memᴰ·head, List·Memᴰ·not-nil, List·Memᴰ·append-cases, List·Memᴰ·eq-of-singleton, Memᴰ·cast, Memᴰ·append-left, Memᴰ·append-right}
@@ -9,7 +9,7 @@ use native.Mathlib.Numerals.{add-one}
 use native.Mathlib.Omega.{arith}
 use lib.ListN.{length, take, getD, set, length-append, List·getD-append}
 use lib.Seq.{ext-getD, take-suc-set, take-all, getD-at}
-use Rattle.lent.specs.Lists.{table, also, all, every, those, Above, Rising}
+use Rattle.lent.specs.Lists.{table, also, all, every, those, threes, Above, Rising}
 
 -- ---- a test and its two answers
 
@@ -254,3 +254,29 @@ those-rising p (suc n) = go (p (suc n)) (those-rising p n)
     go : (t : Bool) → Rising (those p n) → Rising (those p n ++ cond t (suc n ∷ []) [])
     go true r = rising-snoc (those p n) n r (those-upto p n)
     go false r = rw append-nil r
+
+-- ---- three numbers for each element
+
+module _ {A : Type 0} (a b c : A → ℕ) where
+  pub length-threes : (xs : List A) → length (threes a b c xs) ≡ 3 * length xs
+  unfolding threes
+  length-threes [] = refl
+  length-threes (x ∷ xs) = omega (arith, length-threes xs)
+
+  pub threes-at : (xs : List A) (d : A) (i : ℕ) → i < length xs
+      → (getD (threes a b c xs) (3 * i) 0 ≡ a (getD xs i d)) × (getD (threes a b c xs) (3 * i + 1) 0 ≡ b (getD xs i d))
+      × (getD (threes a b c xs) (3 * i + 2) 0 ≡ c (getD xs i d))
+  unfolding threes
+  threes-at [] d i h = absurd (omega arith)
+  threes-at (x ∷ xs) d zero h = (refl, refl, refl)
+  threes-at (x ∷ xs) d (suc i) h =
+      let p = threes-at xs d i (omega arith) in
+      let e : 3 * suc i ≡ suc (suc (suc (3 * i))) = omega arith in
+      let f : 3 * suc i + 1 ≡ suc (suc (suc (3 * i + 1))) = omega arith in
+      let g : 3 * suc i + 2 ≡ suc (suc (suc (3 * i + 2))) = omega arith in
+      (rw e (p .0), rw f (p .1), rw g (p .2))
+
+  pub threes-append : (xs ys : List A) → threes a b c (xs ++ ys) ≡ threes a b c xs ++ threes a b c ys
+  unfolding threes
+  threes-append [] ys = refl
+  threes-append (x ∷ xs) ys = ap (λ (l : List ℕ). a x ∷ b x ∷ c x ∷ l) (threes-append xs ys)

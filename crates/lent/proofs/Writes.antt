@@ -1,15 +1,15 @@
 -- The laws of `write`, the one way in which lent memory changes, and of zeros and padding.
-use Prim.Native.Nat.{ℕ, zero, suc, _+_, _-_, _≤_, _<_, max}
+use Prim.Native.Nat.{ℕ, zero, suc, _+_, _-_, _*_, _≤_, _<_, max}
 use mathlib.Core.Path.{_≡_, refl, sym, _∙_, ap}
 use mathlib.Core.Logic.{⊎-elim}
 use mathlib.Core.List.{List, [], _++_, append-assoc, append-nil}
 use native.Mathlib.Omega.{arith}
-use native.Mathlib.Nat.{add-zero}
+use native.Mathlib.Nat.{add-zero, zero-add}
 use lib.ListN.{length, take, drop, getD, length-append, length-drop, take-append-drop, length-replicate, drop-of-length-le, List·getD-append, List·getD-eq-default}
-use lib.Seq.{length-take-le, getD-take, getD-drop, getD-append-add, take-at, drop-at, drop-drop, ext-getD}
+use lib.Seq.{length-take-le, getD-take, getD-drop, getD-append-add, take-at, drop-at, drop-drop, ext-getD, sets, sets-eq}
 use Rattle.lent.specs.Write.{write, zeros, pad}
-use Rattle.lent.specs.Lists.{table}
-use Rattle.lent.proofs.Lists.{lt-or-ge, length-table, table-at}
+use Rattle.lent.specs.Lists.{table, threes}
+use Rattle.lent.proofs.Lists.{lt-or-ge, length-table, table-at, length-threes, threes-at}
 
 -- ---- zeros
 
@@ -151,3 +151,20 @@ pad-at n xs i =
 pub pad-none : (n : ℕ) (xs : List ℕ) → n ≤ length xs → pad n xs ≡ xs
 unfolding pad zeros
 pad-none n xs h = let e : n - length xs ≡ 0 = omega arith in rw e (append-nil xs)
+
+-- ---- stores in a row, and three numbers for each element
+
+pub stored : (vs l : List ℕ) (at : ℕ) → at + length vs ≤ length l → sets l at vs ≡ write l at vs
+unfolding write
+stored vs l at h = sets-eq vs l at h ∙ append-assoc (take at l) vs (drop (at + length vs) l)
+
+pub threes-in : {A : Type 0} (a b c : A → ℕ) (xs : List A) (d : A) (out : List ℕ) → (i : ℕ) → i < length xs
+    → (getD (write out 0 (threes a b c xs)) (3 * i) 0 ≡ a (getD xs i d)) × (getD (write out 0 (threes a b c xs)) (3 * i + 1) 0 ≡ b (getD xs i d))
+    × (getD (write out 0 (threes a b c xs)) (3 * i + 2) 0 ≡ c (getD xs i d))
+threes-in a b c xs d out i h =
+    let l = length-threes a b c xs in
+    let p = threes-at a b c xs d i h in
+    (at (3 * i) (omega arith) ∙ p .0, at (3 * i + 1) (omega arith) ∙ p .1, at (3 * i + 2) (omega arith) ∙ p .2)
+  where
+    at : (k : ℕ) → k < length (threes a b c xs) → getD (write out 0 (threes a b c xs)) k 0 ≡ getD (threes a b c xs) k 0
+    at k h = ap (λ (x : ℕ). getD (write out 0 (threes a b c xs)) x 0) (sym (zero-add k)) ∙ write-in out 0 (threes a b c xs) (omega arith) k h

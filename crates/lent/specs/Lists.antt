@@ -1,4 +1,4 @@
--- A list by its elements' numbers, a test of every number below n, the numbers of 1 to n that a test takes, tests in a row, and rising numbers.
+-- A list by its elements' numbers, a test of every number below n, the numbers of 1 to n that a test takes, tests in a row, three numbers for each element, and rising numbers.
 use Prim.Native.Nat.{ℕ, zero, suc, _<_}
 use mathlib.Core.Bool.{Bool, true, false, cond}
 use mathlib.Core.List.{List, [], _∷_, _++_}
@@ -27,6 +27,11 @@ every (suc n) p = also (every n p) (p n)
 unfoldable pub those : (ℕ → Bool) → ℕ → List ℕ
 those p zero = []
 those p (suc n) = those p n ++ cond (p (suc n)) (suc n ∷ []) []
+
+-- three numbers for each element, one after the other
+unfoldable pub threes : {A : Type 0} → (A → ℕ) → (A → ℕ) → (A → ℕ) → List A → List ℕ
+threes a b c [] = []
+threes a b c (x ∷ xs) = a x ∷ b x ∷ c x ∷ threes a b c xs
 
 -- each is greater than the one before, so none stands twice
 abbrev pub Above : ℕ → List ℕ → Type 0

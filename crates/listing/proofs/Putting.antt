@@ -6,7 +6,8 @@ use native.Mathlib.Omega.{arith}
 use lib.ListN.{length, set, length-append}
 use Rattle.lent.specs.Write.{write}
 use Rattle.look.specs.Put.{Put}
-use Rattle.look.proofs.Putting.{stored, put-length, put-then}
+use Rattle.lent.proofs.Writes.{stored}
+use Rattle.look.proofs.Putting.{put-length, put-then}
 
 -- one byte
 pub put-byte : (l : List ℕ) (at v : ℕ) → at + 1 ≤ length l → Put l at (v ∷ []) (set l at v) (at + 1)

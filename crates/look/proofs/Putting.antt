@@ -1,4 +1,4 @@
--- Pieces put one after the other: by stores, by calls, and by a loop over the slots.
+-- Pieces put one after the other: by calls, and by a loop over the slots.
 use Prim.Native.Nat.{ℕ, zero, suc, _+_, _*_, _≤_, _<_}
 use mathlib.Core.Path.{_≡_, refl, sym, _∙_, ap}
 use mathlib.Core.Bool.{Bool, true, false, not, cond}
@@ -8,7 +8,6 @@ use native.Mathlib.Numerals.{add-one}
 use native.Mathlib.Nat.{add-zero}
 use native.Mathlib.Omega.{arith}
 use lib.ListN.{length, take, drop, length-append}
-use lib.Seq.{sets, sets-eq}
 use Rattle.lent.specs.Lists.{those}
 use Rattle.lent.specs.Write.{write}
 use Rattle.lent.proofs.Writes.{write-then, write-nothing, length-write}
@@ -16,11 +15,6 @@ use Rattle.paper.specs.declared.sizes.Run.{Run}
 use Rattle.paper.specs.Index.{empty}
 use Rattle.look.specs.Put.{Put}
 use Rattle.look.specs.Rows.{full, scansIn, joined, pieceIf, piecesIn}
-
--- stores in a row
-pub stored : (vs l : List ℕ) (at : ℕ) → at + length vs ≤ length l → sets l at vs ≡ write l at vs
-unfolding write
-stored vs l at h = sets-eq vs l at h ∙ append-assoc (take at l) vs (drop (at + length vs) l)
 
 pub put-none : (l : List ℕ) (at : ℕ) → Put l at [] l at
 put-none l at = record { place = sym (add-zero at); holds = sym (write-nothing l at) }

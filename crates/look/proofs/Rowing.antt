@@ -8,10 +8,11 @@ use native.Mathlib.Omega.{arith}
 use lib.ListN.{length, set, length-append}
 use lib.Dec.{ltb}
 use borrow.Author.Tests.{lt-ltb, le-ltb}
-use Rattle.lent.specs.Lists.{those}
+use Rattle.lent.specs.Lists.{those, threes}
 use Rattle.lent.specs.Checks.{Check, check}
 use Rattle.lent.specs.Write.{write}
-use Rattle.lent.proofs.Lists.{those-same, length-those}
+use Rattle.lent.proofs.Lists.{those-same, length-those, length-threes}
+use Rattle.lent.proofs.Writes.{stored}
 use Rattle.paper.specs.declared.sizes.Sizes.{Sizes}
 use Rattle.paper.specs.declared.sizes.Run.{Run}
 use Rattle.paper.specs.declared.refusal.Refusal.{Refusal}
@@ -25,7 +26,7 @@ use Rattle.entries.specs.Row.{rowRun, Runs}
 use Rattle.look.specs.Put.{Put}
 use Rattle.look.specs.Rows.{full, scansIn, oneIf, joined, pieceIf, piecesIn, rowOf}
 use Rattle.look.proofs.Calls.{call-opens, call-refused}
-use Rattle.look.proofs.Putting.{stored, same-pieces}
+use Rattle.look.proofs.Putting.{same-pieces}
 
 -- the loop that counts: a turn, and its end
 pub count-next : (run : ℕ → Run) (i n k : ℕ) {a : Run} → n ≡ length (scansIn run i) → a ≡ run (i + 1) → k ≡ n + oneIf a → k ≡ length (scansIn run (i + 1))
@@ -49,18 +50,15 @@ module _ (r : Run) (e : empty r ≡ false) (at s : ℕ) where
   pub row-put : (out : List ℕ) → at + 3 ≤ length out → Put out at (pieceIf rowOf s r) (set (set (set out at s) (at + 1) (r .first)) (at + 2) (r .last)) (at + 3)
   row-put out h = rw e (record { place = refl; holds = rw (add-one at, add-two at) (stored (rowOf s r) out at h) })
 
-three-each : (run : ℕ → Run) (ss : List ℕ) → length (joined (λ s. rowOf s (run s)) ss) ≡ 3 * length ss
-unfolding joined
-three-each run [] = refl
-three-each run (s ∷ ss) = omega (arith, three-each run ss)
-
 lines-rows : (run : ℕ → Run) (ss : List ℕ) → linesOf run ss ≡ joined (λ s. rowOf s (run s)) ss
-unfolding linesOf joined
+unfolding threes joined
 lines-rows run [] = refl
 lines-rows run (s ∷ ss) = ap (λ (l : List ℕ). s ∷ run s .first ∷ run s .last ∷ l) (lines-rows run ss)
 
 pub rows-fit : (run : ℕ → Run) (u n room : ℕ) → n ≡ length (scansIn run u) → 3 * n ≤ room → length (piecesIn rowOf run u) ≤ room
-rows-fit run u n room e h = omega (arith, three-each run (scansIn run u))
+rows-fit run u n room e h =
+    let ss : List ℕ = scansIn run u in
+    omega (arith, ap length (lines-rows run ss), length-threes (λ s. s) (λ s. run s .first) (λ s. run s .last) ss)
 
 -- ---- a row that holds the runs of a file
 

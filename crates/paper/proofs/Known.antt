@@ -5,7 +5,7 @@ use borrow.Author.Tests.{le-leb, lt-leb}
 use lib.Ieee.{Float, ofBits}
 use lib.ListN.{length}
 use Rattle.lent.specs.Number.{number, value, digit, bytes, numbers, int16, widened}
-use Rattle.lent.specs.Lists.{table, every, those}
+use Rattle.lent.specs.Lists.{table, every, those, threes}
 use Rattle.lent.specs.Least.{least}
 use Rattle.lent.specs.Greatest.{greatest}
 use Rattle.lent.specs.Part.{placeIn}
@@ -17,7 +17,7 @@ use Rattle.paper.specs.Sizes.{wordAt, counterOf, typeOf, bootBytes, shap
 use Rattle.paper.specs.Index.{empty, inData, badAt, aboveAt, shares, sharer, sharedAt, indexOf, openOf, slotsOf}
 use Rattle.paper.specs.Entry.{kindOf, magicOf, positionOf, versionOne, fieldsOf, entryBytes}
 use Rattle.paper.specs.Scan.{classesOf, startsOf, rule1, rule2, rule3, rule4, rule5, rule6, rising, ruledOf, classAt, classEnd, classIn, classOf, dataOf}
-use Rattle.paper.specs.Look.{linesOf, listedOf, listedOut, foundOf, showOf, readOf}
+use Rattle.paper.specs.Look.{listedOf, listedOut, foundOf, showOf, readOf}
 use Rattle.paper.specs.Store.{freeAt, freePlace, emptySlot, saveOf, keepOf, clearOf, dataFrom, writesOf}
 use Rattle.paper.specs.Step.{agrees, stands}
 use Rattle.paper.specs.Gaps.{leftAt, gapsZero, gapsOf}
@@ -143,7 +143,7 @@ scans =
     }
 
 pub files : File
-unfolding number value int16 table every those least write exactly wholeFloat wholeOf ofBits lengthOf isWhole sizeOf wordAt counterOf typeOf shaped inRange empty inData badAt aboveAt shares sharer sharedAt openOf slotsOf kindOf versionOne fieldsOf classesOf startsOf rule1 rule2 rule3 rule4 rule5 rule6 rising ruledOf linesOf listedOf listedOut foundOf showOf readOf scan13 scan15 file
+unfolding number value int16 table every those least write exactly wholeFloat wholeOf ofBits lengthOf isWhole sizeOf wordAt counterOf typeOf shaped inRange empty inData badAt aboveAt shares sharer sharedAt openOf slotsOf kindOf versionOne fieldsOf classesOf startsOf rule1 rule2 rule3 rule4 rule5 rule6 rising ruledOf threes listedOf listedOut foundOf showOf readOf scan13 scan15 file
 files =
     record {
       long = refl;
@@ -260,7 +260,7 @@ agreeing =
     }
 
 pub oldFiles : OldFile
-unfolding number value int16 widened same table every those least write exactly wholeFloat wholeOf ofBits lengthOf isWhole sizeOf wordAt counterOf typeOf shaped inRange empty inData badAt aboveAt shares sharer sharedAt openOf slotsOf kindOf magicOf positionOf versionOne fieldsOf classesOf startsOf rule1 rule2 rule3 rule4 rule5 rule6 rising ruledOf linesOf listedOf listedOut foundOf showOf readOf saveOf keepOf clearOf agrees scan13 scan15 oldFile
+unfolding number value int16 widened same table every those least write exactly wholeFloat wholeOf ofBits lengthOf isWhole sizeOf wordAt counterOf typeOf shaped inRange empty inData badAt aboveAt shares sharer sharedAt openOf slotsOf kindOf magicOf positionOf versionOne fieldsOf classesOf startsOf rule1 rule2 rule3 rule4 rule5 rule6 rising ruledOf threes listedOf listedOut foundOf showOf readOf saveOf keepOf clearOf agrees scan13 scan15 oldFile
 oldFiles =
     record {
       long = refl;

@@ -4,7 +4,7 @@ use mathlib.Core.Bool.{Bool, false, not}
 use mathlib.Core.List.{List, [], _∷_, _++_}
 use lib.Dec.{ltb, leb}
 use lib.ListN.{length}
-use Rattle.lent.specs.Lists.{all}
+use Rattle.lent.specs.Lists.{all, threes}
 use Rattle.lent.specs.Checks.{Check, check, judge}
 use Rattle.lent.specs.Write.{write}
 use Rattle.paper.specs.declared.sizes.Sizes.{Sizes}
@@ -24,9 +24,8 @@ use Rattle.paper.specs.Entry.{fieldsOf, versionOne, noEntry}
 use Rattle.paper.specs.Scan.{ruledOf, ofRuled}
 
 -- "it writes slot, first and last as three 32-bit numbers per scan in slot order"
-unfoldable pub linesOf : (ℕ → Run) → List ℕ → List ℕ
-linesOf run [] = []
-linesOf run (s ∷ ss) = s ∷ run s .first ∷ run s .last ∷ linesOf run ss
+abbrev pub linesOf : (ℕ → Run) → List ℕ → List ℕ
+linesOf run ss = threes (λ s. s) (λ s. run s .first) (λ s. run s .last) ss
 
 -- the slots that a file lists
 abbrev pub listOf : List ℕ → List ℕ
