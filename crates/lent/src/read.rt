@@ -77,6 +77,16 @@ pub fn word64(s: &[u8], at: usize) -> u64
     (hi as u64) * 4294967296 + (lo as u64)
 }
 
+// Eight bytes that are all there.
+pub fn load64(s: &[u8], at: usize) -> u64
+    requires { ⌜ at + 8 ≤ length (now s) ⌝ }
+    ensures { λ r. ⌜ r ≡ be64 (now (s .entry)) at ⌝ }
+{
+    let hi = load32(s, at);
+    let lo = load32(s, at + 4);
+    (hi as u64) * 4294967296 + (lo as u64)
+}
+
 // A 32-bit number that counts or indexes.
 pub fn size(s: &[u8], at: usize) -> usize
     ensures { λ r. ⌜ Plain (be32 (now (s .entry)) at) 4294967296 r ⌝ }
@@ -106,4 +116,12 @@ pub fn int16(s: &[u8], at: usize) -> i16
     ensures { λ r. ⌜ r ≡ int16 (be16 (now (s .entry)) at) ⌝ }
 {
     signed(word16(s, at))
+}
+
+// The integer of two bytes that are all there.
+pub fn load_int16(s: &[u8], at: usize) -> i16
+    requires { ⌜ at + 2 ≤ length (now s) ⌝ }
+    ensures { λ r. ⌜ r ≡ int16 (be16 (now (s .entry)) at) ⌝ }
+{
+    signed(load16(s, at))
 }

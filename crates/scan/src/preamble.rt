@@ -1,6 +1,7 @@
 //! The preamble: the number of classes and the fifteen starts, two's complement.
 ghost use mathlib.Core.Path.{_≡_};
 ghost use Prim.Native.Nat.{_<_, _≤_};
+ghost use lib.ListN.{length};
 ghost use lib.Signed.{ltZ};
 ghost use Rattle.lent.specs.Number.{Plain};
 ghost use Rattle.paper.specs.Entry.{naturalOf};
@@ -24,14 +25,15 @@ pub fn classes(s: &[u8]) -> usize
     natural(read::int16(s, 0))
 }
 
-// The fifteen starts, the unused ones too.
+// The fifteen starts, the unused ones too, of a preamble that is all there: the compiler reads several at a time.
 pub fn starts(s: &[u8]) -> [i16; 15]
+    requires { ⌜ 32 ≤ length (now s) ⌝ }
     ensures { λ r. ⌜ r ≡ startsOf (now (s .entry)) ⌝ }
 {
     let mut a = [0i16; 15];
     let mut k: usize = 0;
     while k < 15 {
-        a[k] = read::int16(s, 2 + 2 * k);
+        a[k] = read::load_int16(s, 2 + 2 * k);
         k += 1;
     }
     a

@@ -32,7 +32,7 @@ loop-again : tie.Need-loop-again Inv-loop μ-loop
 loop-again c =
     let at = c .before .before .loop in
     let s = c .before .before .before .before .args .s .now in
-    let e = same16 (c .int16 .result) (c .int16 .ok) ∙ c .int16 .ensures in
+    let e = same16 (c .load-int16 .result) (c .load-int16 .ok) ∙ c .load-int16 .ensures in
     (omega arith, simp length-set (at .inv .1), fill-more (at .a) (at .k) _ (start s) (omega arith) e (at .inv .2))
 
 returns : tie.Need-returns Inv-loop μ-loop

@@ -9,7 +9,7 @@ use lib.ListN.{length}
 use borrow.Author.Tests.{not-true, not-false}
 use borrow.Author.Needs.{needs}
 use Rattle.paper.specs.Scan.{classesOf, startsOf, wordOf, headlen, datalen, rule1, rule2, rule3, rule4, rule5, lastOf, Rule2}
-use Rattle.paper.proofs.Rules.{rule2-facts, rule4-facts, rule5-facts, breaks-1, breaks-2, breaks-3, breaks-4, breaks-5, breaks-6, keeps-all}
+use Rattle.paper.proofs.Rules.{rule1-facts, rule2-facts, rule4-facts, rule5-facts, breaks-1, breaks-2, breaks-3, breaks-4, breaks-5, breaks-6, keeps-all}
 use Rattle.scan.proofs.Lengths.{summed, kept-both, head-kept, head-broken, rest-kept, rest-broken}
 use Rattle.scan.specs.Lengths.{headKept}
 use Rattle.scan.proofs.rules.judge.Statement.{statement}
@@ -80,6 +80,9 @@ returns-2 : tie.Need-returns-2
 returns-2 c =
     let d = c .before .before .before in
     sym (breaks-2 (run (from-1 d)) _ (one d) (sym (counted (c .before)) ∙ not-true _ (c .if2 .taken)))
+
+starts-requires : tie.Need-starts-requires
+starts-requires c κs = omega (arith, rule1-facts _ _ (one (c .before .before .before)) .0)
 
 starts-kept-requires : tie.Need-starts-kept-requires
 starts-kept-requires c κs = rule2-facts _ (sym (c .before .before .count-kept .ensures) ∙ not-false _ (c .before .if2 .left)) .1
@@ -157,7 +160,7 @@ judge-spec =
     (λ c κs. search needs)
     (λ c κs. search needs)
     returns-2
-    (λ c κs. search needs)
+    starts-requires
     starts-kept-requires
     returns-3
     sub-word

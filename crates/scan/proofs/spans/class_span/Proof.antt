@@ -19,6 +19,9 @@ keeps c = sym (c .before .before .judge .ensures) ∙ c .j2 .given .1
 same-class : (s : List ℕ) (a : List ℤ) (n head number : ℕ) → a ≡ startsOf s → n ≡ classesOf s → classIn a n head number ≡ classIn (startsOf s) (classesOf s) head number
 same-class s a n head number p q = cc
 
+starts-requires : tie.Need-starts-requires
+starts-requires c κs = omega (arith, kept (keeps (c .before)) .one .0)
+
 class-in-requires : tie.Need-class-in-requires
 class-in-requires c κs = omega (arith, c .classes .ensures .is, kept (keeps (c .before .before .before)))
 
@@ -38,7 +41,7 @@ class-span-spec =
     (λ c κs. search needs)
     (λ c. search needs)
     (λ c. search needs)
-    (λ c κs. search needs)
+    starts-requires
     (λ c κs. search needs)
     class-in-requires
     returns
