@@ -235,12 +235,16 @@ module _ {f : List ℕ} {z : Sizes} where
       let p = opens-clear (bootChecks f) (sizesOf f) z e in
       subst (λ (y : Sizes). Booted f y) (p .1) (boot-facts f (clear-all (bootChecks f) (p .0)))
 
-  booted-clear : Booted f z → fired (bootChecks f) ≡ clear
+  pub booted-clear : Booted f z → fired (bootChecks f) ≡ clear
   booted-clear b = all-clear (bootChecks f) (facts-boot f (subst (λ (y : Sizes). Booted f y) (sym (b .reads)) b))
 
   pub sound-boot : Booted f z → bootOf f ≡ Opens z
   unfolding bootOf
   sound-boot b = judge-clear Refused (bootChecks f) (Opens (sizesOf f)) (booted-clear b) ∙ ap Opens (b .reads)
+
+pub boot-fires : (f : List ℕ) {r : Refusal} → bootOf f ≡ Refused r → fired (bootChecks f) ≡ fires r
+unfolding bootOf
+boot-fires f {r} e = refused-fires (bootChecks f) (sizesOf f) r e
 
 -- ---- of an index
 

@@ -40,7 +40,7 @@ use Rattle.paper.specs.Store.{blankChecks, blankSizes, blankOf, reasonOf, scanC
 use Rattle.paper.specs.Gaps.{gapsOf}
 use Rattle.paper.specs.Convert.{tooSmall, formChecks, convertChecks, convertOf}
 use Rattle.paper.specs.Step.{agrees, hasLeft, wroteOf, confirmed, confirmOf, stands, stepAnswer}
-use Rattle.paper.proofs.Opening.{boot-sound, open-index, open-refused, refused-fires, then-opens, then-refused, change-old, change-look}
+use Rattle.paper.proofs.Opening.{boot-sound, boot-fires, open-index, open-refused, refused-fires, then-opens, then-refused, change-old, change-look}
 use Rattle.paper.proofs.Reasons.{reason-least}
 use Rattle.sdd.specs.Face.{TakenSmall, SpanSmall, ListedSmall, AskedSmall, StepSmall}
 
@@ -84,10 +84,6 @@ index-small z R run = (
 
 -- ---- open's refusals, and those of the calls that begin with them
 
-boot-fires : (f : List ℕ) (r : Refusal) → bootOf f ≡ opened.Refused r → fired (bootChecks f) ≡ fires r
-unfolding bootOf
-boot-fires f r e = refused-fires (bootChecks f) (sizesOf f) r e
-
 index-fires : (z : Sizes) (run : ℕ → Run) (r : Refusal) → indexOf z run ≡ opened.Refused r → fired (indexChecks z run) ≡ fires r
 unfolding indexOf
 index-fires z run r e = refused-fires (indexChecks z run) z r e
@@ -104,7 +100,7 @@ open-small f r e = go (bootOf f) refl
         (index-fires z (runOf f z) r (sym (open-index f b) ∙ e))
     go (opened.Refused q) b =
         subst (λ (x : Refusal). valueOf x ≤ 4096) (same-refusal f q r (open-refused f b) e)
-        (small-fires (bootChecks f) (omega arith, (omega arith, (omega arith, (omega arith, tt)))) q (boot-fires f q b))
+        (small-fires (bootChecks f) (omega arith, (omega arith, (omega arith, (omega arith, tt)))) q (boot-fires f b))
 
 then-small : (f : List ℕ) (ds : List (Check Refusal)) → AllSmall ds → (r : Refusal) → fired (openChecks f ++ ds) ≡ fires r → valueOf r ≤ 4096
 then-small f ds h r e = go (openOf f) refl

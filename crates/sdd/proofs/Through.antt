@@ -7,6 +7,7 @@ use native.Mathlib.Omega.{arith}
 use lib.Dec.{eqb}
 use Rattle.lent.proofs.Lists.{all-true}
 use borrow.Author.Tests.{leb-true}
+use Rattle.paper.specs.declared.answer.Listed.{Listed}
 use Rattle.paper.specs.declared.answer.Span.{Span}
 use Rattle.paper.specs.declared.answer.Taken.{Taken}
 use Rattle.paper.specs.declared.answer.Asked.{Asked}
@@ -17,11 +18,11 @@ use Rattle.paper.specs.declared.job.Begun.{Begun}
 use Rattle.paper.specs.declared.job.Step.{Step}
 use Rattle.paper.specs.declared.job.Step.the-variants as step
 use Rattle.paper.specs.declared.job.Stepped.{Stepped}
-use Rattle.paper.specs.Refusals.{spanSays, takenSays, askedSays, stepSays}
+use Rattle.paper.specs.Refusals.{listedSays, spanSays, takenSays, askedSays, stepSays}
 use Rattle.paper.specs.Sizes.{sizesOf}
 use Rattle.paper.specs.Step.{agrees, hasLeft, stepFile, stepJob, stepAnswer}
-use Rattle.paper.proofs.Answers.{span-only, taken-only, asked-only, step-only}
-use Rattle.sdd.specs.Face.{askedC, spanC, foundC, jobC, jobOf, begunC, steppedC, toldOf, beside, flagTests, flagged, stepC, stepFileC, TakenSmall, SpanSmall, AskedSmall, StepSmall}
+use Rattle.paper.proofs.Answers.{listed-only, span-only, taken-only, asked-only, step-only}
+use Rattle.sdd.specs.Face.{listedC, askedC, spanC, foundC, jobC, jobOf, begunC, steppedC, toldOf, beside, flagTests, flagged, stepC, stepFileC, TakenSmall, SpanSmall, ListedSmall, AskedSmall, StepSmall}
 use Rattle.sdd.specs.declared.face.CJob.{CJob}
 use Rattle.sdd.specs.declared.face.CStepped.{CStepped}
 use Rattle.sdd.specs.declared.jobs.Told.{Told}
@@ -31,6 +32,12 @@ span-small a b e h = subst SpanSmall (sym (span-only a b e)) h
 
 pub span-face : (a b : Span) → spanSays a ≡ spanSays b → spanC a ≡ spanC b
 span-face a b e = ap spanC (span-only a b e)
+
+pub listed-small : (a b : Listed) → listedSays a ≡ listedSays b → ListedSmall b → ListedSmall a
+listed-small a b e h = subst ListedSmall (sym (listed-only a b e)) h
+
+pub listed-face : (a b : Listed) → listedSays a ≡ listedSays b → listedC a ≡ listedC b
+listed-face a b e = ap listedC (listed-only a b e)
 
 pub asked-small : (a b : Asked) → askedSays a ≡ askedSays b → AskedSmall b → AskedSmall a
 asked-small a b e h = subst AskedSmall (sym (asked-only a b e)) h

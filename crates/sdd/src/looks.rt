@@ -5,7 +5,7 @@ ghost use Rattle.paper.specs.Index.{openOf};
 ghost use Rattle.paper.specs.Look.{listedOf, listedOut, foundOf, showOf, readOf};
 ghost use Rattle.paper.specs.Gaps.{gapsOf};
 ghost use Rattle.paper.specs.Scan.{classOf, dataOf};
-ghost use Rattle.sdd.specs.Face.{openedC, listedC, askedC, spanC, foundC, SpanSmall, AskedSmall};
+ghost use Rattle.sdd.specs.Face.{openedC, listedC, askedC, spanC, foundC, SpanSmall, ListedSmall, AskedSmall};
 use super::face::CAnswer;
 use super::face::CEntry;
 use super::face::CListed;
@@ -80,12 +80,11 @@ pub extern "C" fn sdd_gaps_zero(file: &[u8]) -> CAnswer
     answered(gaps::gaps_zero(file))
 }
 
-#[no_mangle]
-pub extern "C" fn sdd_list(file: &[u8], out: &mut [u32]) -> CListed
-    ensures { λ r. ⌜ r ≡ listedC (listedOf (now (file .entry)) (now (out .entry))) ⌝ }
-    ensures { λ r. ⌜ now (out .exit) ≡ listedOut (now (file .entry)) (now (out .entry)) ⌝ }
+// A number of scans, in numbers.
+fn counted(l: Listed) -> CListed
+    requires { ⌜ ListedSmall l ⌝ }
+    ensures { λ r. ⌜ r ≡ listedC l ⌝ }
 {
-    let l = look::list(file, out);
     match l {
         Listed::Scans(n) => CListed {
             why: accepted(),
@@ -96,6 +95,14 @@ pub extern "C" fn sdd_list(file: &[u8], out: &mut [u32]) -> CListed
             scans: 0,
         },
     }
+}
+
+#[no_mangle]
+pub extern "C" fn sdd_list(file: &[u8], out: &mut [u32]) -> CListed
+    ensures { λ r. ⌜ r ≡ listedC (listedOf (now (file .entry)) (now (out .entry))) ⌝ }
+    ensures { λ r. ⌜ now (out .exit) ≡ listedOut (now (file .entry)) (now (out .entry)) ⌝ }
+{
+    counted(look::list(file, out))
 }
 
 #[no_mangle]
