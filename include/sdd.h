@@ -39,15 +39,15 @@
  * one is above every limit; the counter alone has 16 plain bits. The type is 0. Ranges and rules are
  * the current form's. Where an entry's magic number is 2 its scan is SDD version 1; where it is another
  * (1 is IEEE KEEP) the scan is listed and shown but not read (18). Old files are looked at, by open,
- * list, entry_at, show, read and gaps_zero. They are not changed: save, keep and clear answer 2 and a step
- * 14, and blank makes files of the current form alone. to_current and to_old write a file's bootstrap and
- * index in the other form into other memory; the data section is the same in both.
+ * list, entry_at, show, read, gaps_zero and find. They are not changed: save, keep and clear answer 2 and a
+ * step 14, and blank makes files of the current form alone. to_current and to_old write a file's bootstrap
+ * and index in the other form into other memory; the data section is the same in both.
  *
  * The refusals by number. Each call's comment has its own in the order in which they are looked
  * for. A call that looks at a file has "open's own", 1 and then 3 to 8 as numbered; one that begins
- * a change has 1 to 8. Then come 9 or 12, 10, 18, 11, 13 (so a keep's 12 comes before its 11); a list's
- * 17 last; a conversion's 17 and then its 19; a step's 14 first, and of a confirming step then open's own
- * and 15.
+ * a change has 1 to 8. find, which looks at no index, has 1 and then 3 to 5. Then come 9 or 12, 10, 18, 11,
+ * 13 (so a keep's 12 comes before its 11); a list's and a find's 17 last; a conversion's 17 and then its 19;
+ * a step's 14 first, and of a confirming step then open's own and 15.
  *
  *    1  fewer than 512 bytes
  *    2  save, keep, clear: the file has the old form (word 8 is 0), which is not changed
@@ -68,7 +68,7 @@
  *   15  confirming step: the entry or the scan's records are not what the job gives, or a record of the old
  *       scan is not all zeros
  *   16  blank: sizes outside their ranges, or too large for what was lent
- *   17  list, to_current, to_old: what was lent for the answer is too short to hold it
+ *   17  list, find, to_current, to_old: what was lent for the answer is too short to hold it
  *   18  read: the entry of an old file says that the scan is not of version 1 (its magic is not 2)
  *   19  to_current, to_old: the file has the wanted form already, is of type 1, has a scan whose magic is
  *       not 2, or has a number that the old form cannot hold
@@ -149,6 +149,7 @@ enum { SDD_OTHER = 0, SDD_CONTINUUM = 1, SDD_SPECTRAL_LINE = 2 };
 #define SDD_STACK_TO_CURRENT (168 * 1024)
 #define SDD_STACK_TO_OLD (168 * 1024)
 #define SDD_STACK_GAPS_ZERO (168 * 1024)
+#define SDD_STACK_FIND (1 * 1024)
 
 /* Why a call was refused; {0, 0} where it was not. */
 typedef struct {
@@ -172,7 +173,7 @@ typedef struct {
   uint64_t version;  /* 0 old, 1 current: SDD_OLD, SDD_CURRENT */
 } sdd_opened;
 
-/* How many scans were listed. */
+/* How many scans were listed, or found. */
 typedef struct {
   sdd_refusal why;
   uint64_t scans;
@@ -397,6 +398,25 @@ sdd_refusal sdd_to_old(const uint8_t *file, size_t file_len, uint8_t *out, size_
  * has the file can read it.
  * Lent: the file, to look at, with all of records 1 to N+D. Refusals: open's own, 1 and then 3 to 8. */
 sdd_answer sdd_gaps_zero(const uint8_t *file, size_t file_len);
+
+/* Finds the scans of a file whose index is lost: by their own bytes, with a good record 1 and without a look
+ * at the index. From record N+1 on, the run from that record to the end of record N+D is judged by rules 1 to
+ * 5. Where it keeps them a scan is found, and the search goes on after the scan's last record; else at the next
+ * record. Three elements of `out` for each find, in record order: its first record; its last, as HEADLEN +
+ * DATALEN have it; and its number, SCAN: the 64 bits of class 1's third word, bytes 48 to 55 of the run, a
+ * Real*8. Finds share no record. A file of either form is searched; an old entry's magic number is not asked.
+ *
+ * Where a file opens, its records of no scan are zeros, and each of its scans keeps the rules and fills its
+ * records exactly, the finds are the scans of its list, each once. Elsewhere they need not be. A scan that was
+ * replaced, cleared or cut off and is left in records of no scan is found too, and so is any data that look
+ * like one: a find is no proof that the scan was ever listed, or that the records after its first are its own.
+ * And a find that reaches too far hides what begins in the records that it takes up.
+ *
+ * Lent: the file, to look at, with all of records N+1 to N+D; `out`, out_len elements to write. Answered: the
+ * number of finds, in `scans`; the elements after 3 x finds are not touched, and 3 x D elements are always
+ * enough. How many are needed is not known before: where it is 17, lend more.
+ * Refusals: 1, 3, 4, 5, then 17 where out_len is less than 3 x finds. */
+sdd_listed sdd_find(const uint8_t *file, size_t file_len, uint64_t *out, size_t out_len);
 
 #ifdef __cplusplus
 }

@@ -167,7 +167,7 @@ static inline const char *sdd_sentence(sdd_refusal why) {
              "of L, with at most 4,096 slots, and N records must fit";
     case SDD_ANSWER_TOO_LONG:
       return "the answer does not fit into what was lent for it: lend three numbers for each "
-             "scan of a list, N records for a conversion";
+             "scan of a list or a search, N records for a conversion";
     case SDD_NOT_VERSION_ONE:
       return "the old file says that this scan is not of SDD version 1, so it is not read: "
              "show its records as they stand, or have the station convert it";

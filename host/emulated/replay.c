@@ -20,7 +20,7 @@ int printf(const char *format, ...);
 void exit(int status);
 
 enum { PROT_NONE = 0, PROT_READ = 1, PROT_READ_WRITE = 3, MAP_PRIVATE = 2, MAP_ANONYMOUS = 32 };
-enum { CALLS = 15, UNTOUCHED = 0x5a };
+enum { CALLS = 16, LIST = 1, FIND = 15, UNTOUCHED = 0x5a };
 /* a file above this size is not compared whole after every call, but when the next one comes */
 #define LARGE ((size_t)1 << 20)
 /* a multiple of every page size there is, on whatever machine the emulator runs */
@@ -28,7 +28,7 @@ enum { CALLS = 15, UNTOUCHED = 0x5a };
 
 static const char *const NAMES[CALLS] = {"open", "list",  "entry", "show", "read",  "class",      "data",
                                          "blank", "save", "keep",  "clear", "step", "to_current", "to_old",
-                                         "gaps_zero"};
+                                         "gaps_zero", "find"};
 
 static void stop(const char *why) {
   printf("replay: %s\n", why);
@@ -149,16 +149,23 @@ static sdd_job read_job(void) {
   return job;
 }
 
+/* Lends a row for so many bytes of elements, filled with what should stay where nothing is written. */
 static void lend_out(size_t len) {
   drop(out);
-  out = lend(4 * len);
+  out = lend(len);
   memset(out.at, UNTOUCHED, out.len);
 }
 
 static void list(void) {
   size_t out_len = number();
-  lend_out(out_len);
+  lend_out(out_len * sizeof(uint32_t));
   put_listed(sdd_list(file.at, file.len, (uint32_t *)out.at, out_len));
+}
+
+static void find(void) {
+  size_t out_len = number();
+  lend_out(out_len * sizeof(uint64_t));
+  put_listed(sdd_find(file.at, file.len, (uint64_t *)out.at, out_len));
 }
 
 static void put_refusal(sdd_refusal why) { PUT(why); }
@@ -173,7 +180,7 @@ static void make(int call) {
   row_len = 0;
   switch (call) {
   case 0: put_opened(sdd_open(file.at, file.len)); break;
-  case 1: list(); break;
+  case LIST: list(); break;
   case 2: put_entry(sdd_entry_at(file.at, file.len, number())); break;
   case 3: put_span(sdd_show(file.at, file.len, number())); break;
   case 4: put_span(sdd_read(file.at, file.len, number())); break;
@@ -187,18 +194,19 @@ static void make(int call) {
   case 12: put_refusal(sdd_to_current(file.at, file.len, second.at, second.len)); break;
   case 13: put_refusal(sdd_to_old(file.at, file.len, second.at, second.len)); break;
   case 14: put_answer(sdd_gaps_zero(file.at, file.len)); break;
+  case FIND: find(); break;
   default: stop("the file of cases has a call that is not known");
   }
 }
 
-/* Whether the elements for a listing are the expected ones, and untouched after them. */
+/* Whether the elements of a listing or a search are the expected ones, and untouched after them. */
 static int out_stands(int call) {
-  size_t elements = number();
-  const uint8_t *expected = bytes(4 * elements);
-  size_t i;
-  if (call != 1) return elements == 0;
-  if (4 * elements > out.len || memcmp(out.at, expected, 4 * elements) != 0) return 0;
-  for (i = 4 * elements; i < out.len; i++)
+  size_t elements = number(), i;
+  size_t len = elements * (call == FIND ? sizeof(uint64_t) : sizeof(uint32_t));
+  const uint8_t *expected = bytes(len);
+  if (call != LIST && call != FIND) return elements == 0;
+  if (len > out.len || memcmp(out.at, expected, len) != 0) return 0;
+  for (i = len; i < out.len; i++)
     if (out.at[i] != UNTOUCHED) return 0;
   return 1;
 }

@@ -18,6 +18,9 @@ static uint8_t *file, scan[SCAN], about[54];
 static const size_t LEN = (size_t)ROOM * L;
 static uint32_t out[3 * 4096];
 static uint8_t second[N * L];
+/* the scans of this file, and those that the files before it have left in its gaps */
+static uint64_t finds[3 * 4 * 4096];
+static sdd_listed found;
 static sdd_job job, clearing;
 
 /* ---- a file with scans in rising or falling order, and a scan */
@@ -96,6 +99,7 @@ static void step(void) {
 static void to_current(void) { sdd_to_current(file, LEN, second, N * L); }
 static void to_old(void) { sdd_to_old(file, LEN, second, N * L); }
 static void gaps_zero(void) { sdd_gaps_zero(file, LEN); }
+static void find(void) { found = sdd_find(file, LEN, finds, sizeof finds / sizeof *finds); }
 
 static const struct {
   const char *name;
@@ -116,6 +120,7 @@ static const struct {
     {"to_current", to_current, SDD_STACK_TO_CURRENT},
     {"to_old", to_old, SDD_STACK_TO_OLD},
     {"gaps_zero", gaps_zero, SDD_STACK_GAPS_ZERO},
+    {"find", find, SDD_STACK_FIND},
     {"blank", blank, SDD_STACK_BLANK},
 };
 
@@ -158,5 +163,5 @@ int main(void) {
              holds ? "" : ": TOO MUCH");
     }
   }
-  return wrong != 0 || job.written != 130 || clearing.written != 3 + SCAN / L;
+  return wrong != 0 || job.written != 130 || clearing.written != 3 + SCAN / L || found.scans < USED;
 }

@@ -12,6 +12,7 @@ pub mod Reading
 pub mod Fields
 pub mod Telling
 pub mod Zeroing
+pub mod Finding
 pub mod Unchanged
 pub mod Filled
 pub mod Old

@@ -17,11 +17,11 @@ use Rattle.paper.specs.declared.sizes.Run.{Run}
 use Rattle.paper.specs.declared.refusal.Refusal.{Refusal}
 use Rattle.paper.specs.declared.refusal.Refusal.the-variants.{TooShort}
 use Rattle.paper.specs.Refusals.{Says, refuses}
-use Rattle.paper.specs.Sizes.{sizesOf, versionOf, capacityOf, bytesOf, tooShort, wordChecks}
-use Rattle.paper.specs.Index.{runOf, shares, sharer, badAt, aboveAt, sharedAt, lowest, indexChecks, openChecks, changeChecks, Lies, Laid, Sound}
+use Rattle.paper.specs.Sizes.{sizesOf, versionOf, capacityOf, bytesOf, tooShort, wordChecks, bootChecks}
+use Rattle.paper.specs.Index.{runOf, shares, sharer, badAt, aboveAt, sharedAt, lowest, indexChecks, openChecks, changeChecks, Lies, Laid, Booted, Sound}
 use Rattle.paper.proofs.Opening.{range-facts, facts-range, good-lies, lies-good, above-facts, facts-above, shared-facts, shares-common, common-shares, share-facts}
 use Rattle.paper.proofs.Answers.{refusal-only, number-some}
-use Rattle.demands.specs.Causes.{Row, end, asks, asks-each, only-if, amiss, passed, named, none, Given, Met, Shared, IndexRow, WordRow, OpenRow, ChangeRow}
+use Rattle.demands.specs.Causes.{Row, end, asks, asks-each, only-if, amiss, passed, named, none, Given, Met, Shared, IndexRow, BootRow, WordRow, OpenRow, ChangeRow}
 use Rattle.demands.specs.Truth.{Told}
 
 -- the checks say what the row says
@@ -185,20 +185,26 @@ module _ (z : Sizes) (run : ℕ → Run) where
 
 -- ---- 1 to 8
 
-word-row : (f : List ℕ) {ds : List (Check Refusal)} {row : Row} → 512 ≤ length f → (Sound f (sizesOf f) → Meets ds row)
-    → Meets ((wordChecks f ++ indexChecks (sizesOf f) (runOf f (sizesOf f))) ++ ds) (WordRow f row)
-word-row f long k =
+boot-row : (f : List ℕ) {ds : List (Check Refusal)} {row : Row} → 512 ≤ length f → (Booted f (sizesOf f) → Meets ds row) → Meets (wordChecks f ++ ds) (BootRow f row)
+boot-row f long k =
     one (λ t h. omega (arith, ltb-true 1 (versionOf f) t)) (λ t. omega (arith, ltb-false 1 (versionOf f) t))
     (λ known.
     one (λ t h. true≢false (facts-range (sizesOf f) h) (not-true _ t)) (λ t. range-facts (sizesOf f) (not-false _ t))
     (λ range.
     one (λ t h. omega (arith, ltb-true (length f) (bytesOf (sizesOf f)) t)) (λ t. omega (arith, ltb-false (length f) (bytesOf (sizesOf f)) t))
-    (λ held.
-    index-row (sizesOf f) (runOf f (sizesOf f))
-    (λ laid. k (record { booted = record { reads = refl; long = long; version = known; ranged = range; held = held }; laid = laid })))))
+    (λ held. k (record { reads = refl; long = long; version = known; ranged = range; held = held }))))
+
+word-row : (f : List ℕ) {ds : List (Check Refusal)} {row : Row} → 512 ≤ length f → (Sound f (sizesOf f) → Meets ds row)
+    → Meets ((wordChecks f ++ indexChecks (sizesOf f) (runOf f (sizesOf f))) ++ ds) (WordRow f row)
+word-row f long k =
+    boot-row f long (λ booted. index-row (sizesOf f) (runOf f (sizesOf f)) (λ laid. k (record { booted = booted; laid = laid })))
 
 long-row : (f : List ℕ) {cs : List (Check Refusal)} {row : Row} → (512 ≤ length f → Meets cs row) → Meets (tooShort f ∷ cs) (asks (512 ≤ length f) TooShort row)
 long-row f k = one (λ t h. omega (arith, ltb-true (length f) 512 t)) (λ t. omega (arith, ltb-false (length f) 512 t)) k
+
+-- a call that asks for the bootstrap alone
+pub look-row : (f : List ℕ) {ds : List (Check Refusal)} {row : Row} → Meets ds row → Meets (bootChecks f ++ ds) (asks (512 ≤ length f) TooShort (BootRow f row))
+look-row f k = long-row f (λ long. boot-row f long (λ booted. k))
 
 pub open-row : (f : List ℕ) {ds : List (Check Refusal)} {row : Row} → (Sound f (sizesOf f) → Meets ds row) → Meets (openChecks f ++ ds) (OpenRow f row)
 open-row f k = long-row f (λ long. word-row f long k)

@@ -14,7 +14,7 @@ use Rattle.lent.proofs.Leasts.{lowest-least, none-least, none-test, test-none}
 use Rattle.lent.proofs.Checks.{judge-append, judge-fires}
 use Rattle.paper.specs.declared.sizes.Sizes.{Sizes}
 use Rattle.paper.specs.declared.refusal.Refusal.{Refusal}
-use Rattle.paper.specs.declared.refusal.Refusal.the-variants.{NoSuchSlot, NoEmptySlot, BadScan, Disagrees, Differs, NotVersionOne}
+use Rattle.paper.specs.declared.refusal.Refusal.the-variants.{NoSuchSlot, NoEmptySlot, BadScan, Disagrees, Differs, TooSmall, NotVersionOne}
 use Rattle.paper.specs.declared.answer.Opened.{Opened}
 use Rattle.paper.specs.declared.answer.Opened.the-variants as opened
 use Rattle.paper.specs.declared.answer.Listed.the-variants as listed
@@ -36,6 +36,7 @@ use Rattle.paper.specs.Scan.{startsOf, classesOf, headlen, datalen, classIn, ru
 use Rattle.paper.specs.Look.{listOf, listedOf, noSlot, heldChecks, slotChecks, otherScan, readChecks, foundOf, showOf, readOf, InIndex}
 use Rattle.paper.specs.Store.{blankSizes, blankTests, blankChecks, blankOf, recordsFor, freeAt, freePlace, emptySlot, refused, placeFor, keepSlot, reasonOf, scanChecks, saveOf, keepOf, clearOf, totalOf}
 use Rattle.paper.specs.Gaps.{gapsZero, gapsOf}
+use Rattle.paper.specs.Find.{findOf, reportOf}
 use Rattle.paper.specs.Step.{agrees, hasLeft, wroteOf, stands, confirmed, confirmOf, stepAnswer, Agreeing, Standing}
 use Rattle.paper.specs.Convert.{otherMagic, wideRun, convertChecks, convertOf}
 use Rattle.paper.proofs.Converting.{magic-facts, facts-magic, narrow-facts, facts-narrow, going-facts, facts-going}
@@ -49,7 +50,7 @@ use Rattle.paper.proofs.Free.{FreeAt, facts-free, place-free, free-nobody}
 use Rattle.paper.proofs.Begins.{slot-facts, facts-slot}
 use Rattle.demands.specs.Causes.{Row, end, asks, only-if, OpenRow, HeldRow, SlotRow, RuleRow, VersionOne, ReadRow, FreeRun, Place, ScanRow, Vacant, StepRow, ConvertRow, BlankRow}
 use Rattle.demands.specs.Truth.{Told, RefusedExactly}
-use Rattle.demands.proofs.Ordered.{Meets, one, each, nothing, asked-so, not-asked, told, open-row, change-row}
+use Rattle.demands.proofs.Ordered.{Meets, one, each, nothing, asked-so, not-asked, told, look-row, open-row, change-row}
 
 -- ---- 9, 10, 11, 13
 
@@ -150,6 +151,10 @@ module _ (f : List ℕ) where
 
   keep-asks : {cs : List (Check Refusal)} {row : Row} → Meets cs row → Meets (check (eqb (keepSlot f) 0) NoEmptySlot ∷ cs) (asks (Vacant f) NoEmptySlot row)
   keep-asks k = one (λ t. no-vacant (eqb-true (keepSlot f) 0 t)) (λ t. some-vacant (eqb-false (keepSlot f) 0 t)) (λ h. k)
+
+-- 17 of three numbers for each of so many
+room-row : (out : List ℕ) (n : ℕ) → Meets (check (ltb (length out) (3 * n)) TooSmall ∷ []) (asks (3 * n ≤ length out) TooSmall end)
+room-row out n = one (λ t h. omega (arith, ltb-true (length out) (3 * n) t)) (λ t. omega (arith, ltb-false (length out) (3 * n) t)) (λ h. nothing)
 
 -- 16
 blank-row : (f : List ℕ) (n l m : ℕ) → Meets (blankChecks f (blankSizes n l m)) (BlankRow f n l m)
@@ -276,14 +281,13 @@ module _ (f scan : List ℕ) (j : Job) where
 -- ---- every call
 
 pub refused-exactly : RefusedExactly
-unfolding openOf gapsOf listedOf foundOf showOf readOf classOf dataOf saveOf keepOf clearOf stepAnswer blankOf convertOf
+unfolding openOf gapsOf listedOf reportOf foundOf showOf readOf classOf dataOf saveOf keepOf clearOf stepAnswer blankOf convertOf
 refused-exactly =
     record {
       open-file = λ f. told openedSays opened.Refused (opened.Opens (sizesOf f)) (λ r. refl) refl (open-row f (λ S. nothing));
       gaps = λ f. told askedSays asked.Refused (asked.Is (gapsZero f (sizesOf f))) (λ r. refl) refl (open-row f (λ S. nothing));
-      list = λ f out.
-          told listedSays listed.Refused (listed.Scans (length (listOf f))) (λ r. refl) refl
-          (open-row f (λ S. one (λ t h. omega (arith, ltb-true (length out) (3 * length (listOf f)) t)) (λ t. omega (arith, ltb-false (length out) (3 * length (listOf f)) t)) (λ h. nothing)));
+      list = λ f out. told listedSays listed.Refused (listed.Scans (length (listOf f))) (λ r. refl) refl (open-row f (λ S. room-row out (length (listOf f))));
+      find = λ f out. told listedSays listed.Refused (listed.Scans (length (findOf f (sizesOf f)))) (λ r. refl) refl (look-row f (room-row out (length (findOf f (sizesOf f)))));
       entry = λ f s. told (λ (x : Found). takenSays (x .answer)) _ _ (λ r. refl) refl (slot-row f s nothing);
       show = λ f s. told spanSays span.Refused _ (λ r. refl) refl (slot-row f s nothing);
       read = λ f s. read-told f s;

@@ -2,6 +2,7 @@
 use Prim.Native.Nat.{ℕ}
 use mathlib.Core.Path.{_≡_, sym, _∙_, ap}
 use mathlib.Core.List.{List}
+use Rattle.paper.specs.declared.answer.Listed.{Listed}
 use Rattle.paper.specs.declared.answer.Span.{Span}
 use Rattle.paper.specs.declared.answer.Taken.{Taken}
 use Rattle.paper.specs.declared.entry.Entry.{Entry}
@@ -10,8 +11,9 @@ use Rattle.paper.specs.declared.job.Begun.{Begun}
 use Rattle.paper.specs.declared.job.Step.{Step}
 use Rattle.paper.specs.Refusals.{openedSays, listedSays, spanSays, takenSays, askedSays, stepSays}
 use Rattle.paper.specs.Scan.{classOf, dataOf}
-use Rattle.paper.specs.Look.{showOf, readOf}
+use Rattle.paper.specs.Look.{listedOf, listedOut, showOf, readOf}
 use Rattle.paper.specs.Store.{saveOf, keepOf, clearOf}
+use Rattle.paper.specs.Find.{reportOf, reportOut}
 use Rattle.paper.proofs.Answers.{opened-only, listed-only, span-only, taken-only, asked-only, step-only}
 use Rattle.demands.specs.OneOutcome.{Only, Outcome, Begins, OneOutcome}
 
@@ -31,12 +33,17 @@ begin-one x a b p q =
 lent-same : {A : Type 0} (a b : Outcome A) → a .answer ≡ b .answer → a .lent ≡ b .lent → a ≡ b
 lent-same {A} a b e h = ap (λ (t : A). record { answer = t; lent = a .lent }) e ∙ ap (λ (l : List ℕ). record { answer = b .answer; lent = l }) h
 
+-- of a list and what it leaves
+listed-one : (l : Listed) (out : List ℕ) → Only (λ (x : Outcome Listed). (listedSays (x .answer) ≡ listedSays l) × (x .lent ≡ out))
+listed-one l out a b p q = lent-same a b (alike listedSays listed-only _ (a .answer) (b .answer) (p .0) (q .0)) (p .1 ∙ sym (q .1))
+
 pub one-outcome : OneOutcome
 one-outcome =
     record {
       open-file = λ f. alike openedSays opened-only _;
       gaps = λ f. alike askedSays asked-only _;
-      list = λ f out a b p q. lent-same a b (alike listedSays listed-only _ (a .answer) (b .answer) (p .0) (q .0)) (p .1 ∙ sym (q .1));
+      list = λ f out. listed-one (listedOf f out) (listedOut f out);
+      find = λ f out. listed-one (reportOf f out) (reportOut f out);
       entry = λ f s a b p q.
           let e : a .answer ≡ b .answer = alike takenSays taken-only _ (a .answer) (b .answer) (p .0) (q .0) in
           let h : a .entry ≡ b .entry = p .1 ∙ sym (q .1) in

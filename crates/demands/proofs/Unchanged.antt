@@ -27,6 +27,7 @@ use Rattle.paper.specs.Look.{listOf, listChecks, listedOf, listedOut, noSlot, h
 use Rattle.paper.specs.Store.{blankSizes, blankChecks, blankOf, blankFile, refused, accepted, noJob, saveJob, clearJob, keepSlot, scanChecks, saveOf, keepOf, clearOf, totalOf}
 use Rattle.paper.specs.Step.{agrees, hasLeft, writeAt, confirmOf, stepFile, stepJob, stepAnswer}
 use Rattle.paper.proofs.Agreement.{disagreeing, file-refused, job-refused, answer-refused, step-past, job-past}
+use Rattle.paper.specs.Find.{findOf, findChecks, reportOf, reportOut}
 use Rattle.paper.specs.Convert.{convertChecks, convertOf, convertedOut}
 use Rattle.demands.specs.Untouched.{ZeroJob, ZeroEntry, Untouched}
 
@@ -116,13 +117,14 @@ numbered NotVersionOne = (omega arith, omega arith)
 numbered NotConvertible = (omega arith, omega arith)
 
 pub untouched : Untouched
-unfolding convertOf convertedOut blankOf blankFile listedOf listedOut foundOf saveOf keepOf clearOf stepAnswer
+unfolding convertOf convertedOut blankOf blankFile listedOf listedOut reportOf reportOut foundOf saveOf keepOf clearOf stepAnswer
 untouched =
     record {
       blank = λ f n l m r e.
           judge-fires (λ (r : Refusal). f) (blankChecks f (blankSizes n l m)) _ r
           (taken-fires taken.Refused (λ x. x) taken.Accepted (blankChecks f (blankSizes n l m)) (λ q. refl) refl r e);
       list = λ f out r e. judge-fires (λ (r : Refusal). out) (listChecks f out) _ r (listed-fires (listChecks f out) (length (listOf f)) r e);
+      find = λ f out r e. judge-fires (λ (r : Refusal). out) (findChecks f out) _ r (listed-fires (findChecks f out) (length (findOf f (sizesOf f))) r e);
       convert = λ v f out r e.
           judge-fires (λ (r : Refusal). out) (convertChecks v f out) _ r
           (taken-fires taken.Refused (λ x. x) taken.Accepted (convertChecks v f out) (λ q. refl) refl r e);

@@ -16,6 +16,7 @@ use Rattle.paper.specs.Scan.{Rule}
 use Rattle.paper.specs.Look.{listOf, InIndex}
 use Rattle.paper.specs.Store.{blankSizes, recordsFor, totalOf, Blankable}
 use Rattle.paper.specs.Step.{Agreeing, Standing}
+use Rattle.paper.specs.Find.{findOf}
 
 -- ---- rows
 
@@ -77,13 +78,13 @@ IndexRow z run row =
     (asks-each (λ s. z .u < s → run s .first + run s .last ≡ 0) (capacityOf z) AboveUse
     (asks-each (λ s. Shared run s → ⊥) (z .u) SharedRecord row))
 
--- 3 to 8, of either form
+-- 3 to 5, of either form
+abbrev pub BootRow : List ℕ → Row → Row
+BootRow f row = asks (versionOf f ≤ 1) UnknownForm (asks (Ranged (sizesOf f)) OutOfRange (asks (bytesOf (sizesOf f) ≤ length f) PastEnd row))
+
+-- 3 to 8
 abbrev pub WordRow : List ℕ → Row → Row
-WordRow f row =
-    asks (versionOf f ≤ 1) UnknownForm
-    (asks (Ranged (sizesOf f)) OutOfRange
-    (asks (bytesOf (sizesOf f) ≤ length f) PastEnd
-    (IndexRow (sizesOf f) (runOf f (sizesOf f)) row)))
+WordRow f row = BootRow f (IndexRow (sizesOf f) (runOf f (sizesOf f)) row)
 
 abbrev pub OpenRow : List ℕ → Row → Row
 OpenRow f row = asks (512 ≤ length f) TooShort (WordRow f row)
@@ -117,6 +118,10 @@ ReadRow f s = SlotRow f s (asks (VersionOne f s) NotVersionOne (RuleRow (shownOf
 
 abbrev pub ListRow : List ℕ → List ℕ → Row
 ListRow f out = OpenRow f (asks (3 * length (listOf f) ≤ length out) TooSmall end)
+
+-- 02, 2026-06: "Refusals: 1 to 5, then 17", whatever the index holds
+abbrev pub FindRow : List ℕ → List ℕ → Row
+FindRow f out = asks (512 ≤ length f) TooShort (BootRow f (asks (3 * length (findOf f (sizesOf f)) ≤ length out) TooSmall end))
 
 -- "r to r+k-1 lie within the room and belong to no listed scan"
 pub record FreeRun (f : List ℕ) (z : Sizes) (k r : ℕ) : Type 0 where

@@ -2,6 +2,7 @@ pub mod History
 pub mod Survival
 pub mod Used
 pub mod Gaps
+pub mod Find
 pub mod Causes
 pub mod Begun
 pub mod Truth

@@ -20,6 +20,7 @@ use Rattle.paper.specs.Look.{listedOf, listedOut, foundOf, showOf, readOf}
 use Rattle.paper.specs.Store.{blankOf, blankFile, saveOf, keepOf, clearOf}
 use Rattle.paper.specs.Step.{stepFile, stepJob, stepAnswer}
 use Rattle.paper.specs.Gaps.{gapsOf}
+use Rattle.paper.specs.Find.{reportOf, reportOut}
 use Rattle.paper.specs.Convert.{convertOf, convertedOut}
 
 -- at most one is allowed
@@ -45,6 +46,8 @@ pub record OneOutcome : Type 0 where
   pub gaps : (f : List ℕ) → Only (λ (x : Asked). askedSays x ≡ askedSays (gapsOf f))
   pub list : (f out : List ℕ)
       → Only (λ (x : Outcome Listed). (listedSays (x .answer) ≡ listedSays (listedOf f out)) × (x .lent ≡ listedOut f out))
+  pub find : (f out : List ℕ)
+      → Only (λ (x : Outcome Listed). (listedSays (x .answer) ≡ listedSays (reportOf f out)) × (x .lent ≡ reportOut f out))
   pub entry : (f : List ℕ) (s : ℕ)
       → Only (λ (x : Found). (takenSays (x .answer) ≡ takenSays (foundOf f s .answer)) × (x .entry ≡ foundOf f s .entry))
   pub show : (f : List ℕ) (s : ℕ) → Only (λ (x : Span). spanSays x ≡ spanSays (showOf f s))

@@ -21,8 +21,9 @@ use Rattle.paper.specs.Look.{listOf, listedOf, foundOf, showOf, readOf}
 use Rattle.paper.specs.Store.{blankOf, recordsFor, runFrom, saveOf, keepOf, clearOf}
 use Rattle.paper.specs.Step.{stepAnswer}
 use Rattle.paper.specs.Gaps.{gapsOf}
+use Rattle.paper.specs.Find.{reportOf}
 use Rattle.paper.specs.Convert.{convertOf}
-use Rattle.demands.specs.Causes.{Row, end, Given, Met, OpenRow, SlotRow, RuleRow, ReadRow, ListRow, ClearRow, SaveRow, KeepRow, StepRow, ConvertRow, BlankRow}
+use Rattle.demands.specs.Causes.{Row, end, Given, Met, OpenRow, SlotRow, RuleRow, ReadRow, ListRow, FindRow, ClearRow, SaveRow, KeepRow, StepRow, ConvertRow, BlankRow}
 use Rattle.demands.specs.History.{Op, save, keep, clear, Whole, scanOf, writesBy, slotOf, takes, stateAfter}
 
 -- "A file opens exactly when" the facts of `Sound` hold: 01's ranges, its entries, and its rule that no two scans share a record.
@@ -42,6 +43,7 @@ pub record RefusedExactly : Type 0 where
   pub open-file : (f : List ℕ) → Told (openedSays (openOf f)) (OpenRow f end)
   pub gaps : (f : List ℕ) → Told (askedSays (gapsOf f)) (OpenRow f end)
   pub list : (f out : List ℕ) → Told (listedSays (listedOf f out)) (ListRow f out)
+  pub find : (f out : List ℕ) → Told (listedSays (reportOf f out)) (FindRow f out)
   pub entry : (f : List ℕ) (s : ℕ) → Told (takenSays (foundOf f s .answer)) (SlotRow f s end)
   pub show : (f : List ℕ) (s : ℕ) → Told (spanSays (showOf f s)) (SlotRow f s end)
   pub read : (f : List ℕ) (s : ℕ) → Told (spanSays (readOf f s)) (ReadRow f s)

@@ -19,6 +19,7 @@ use Rattle.paper.specs.Scan.{partOf, classOf, dataOf}
 use Rattle.paper.specs.Look.{listedOf, listedOut, foundOf, showOf, readOf}
 use Rattle.paper.specs.Store.{blankOf, blankFile, saveOf, keepOf, clearOf}
 use Rattle.paper.specs.Step.{stepFile, stepJob, stepAnswer}
+use Rattle.paper.specs.Find.{reportOf, reportOut}
 use Rattle.paper.specs.Convert.{convertOf, convertedOut}
 
 -- "a job of zeros"
@@ -53,11 +54,12 @@ pub record ZeroEntry (e : Entry) : Type 0 where
   pub magic : e .magic ≡ pos 0
   pub kind : kindSays (e .kind) ≡ record { number = 0; code = 0; single = ofBits binary32 0; double = ofBits binary64 0 }
 
--- Four calls write to what is lent: blank and step to the file, list to what is lent for the list, a conversion to its second buffer. The others only answer.
+-- Five calls write to what is lent: blank and step to the file, list and find to what is lent for the answer, a conversion to its second buffer. The others only answer.
 pub record Untouched : Type 0 where
   -- "writes nothing"
   pub blank : (f : List ℕ) (n l m : ℕ) (r : Refusal) → blankOf f n l m ≡ taken.Refused r → blankFile f n l m ≡ f
   pub list : (f out : List ℕ) (r : Refusal) → listedOf f out ≡ listed.Refused r → listedOut f out ≡ out
+  pub find : (f out : List ℕ) (r : Refusal) → reportOf f out ≡ listed.Refused r → reportOut f out ≡ out
   pub convert : (v : ℕ) (f out : List ℕ) (r : Refusal) → convertOf v f out ≡ taken.Refused r → convertedOut v f out ≡ out
   -- "A refused step hands back the job as it was"
   pub step-job : (f scan : List ℕ) (j : Job) (r : Refusal) → stepAnswer f scan j ≡ step.Refused r → (stepFile f scan j ≡ f) × (stepJob f scan j ≡ j)

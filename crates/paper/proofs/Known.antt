@@ -21,9 +21,10 @@ use Rattle.paper.specs.Look.{listedOf, listedOut, foundOf, showOf, readO
 use Rattle.paper.specs.Store.{freeAt, freePlace, emptySlot, saveOf, keepOf, clearOf, dataFrom, writesOf}
 use Rattle.paper.specs.Step.{agrees, stands}
 use Rattle.paper.specs.Gaps.{leftAt, gapsZero, gapsOf}
+use Rattle.paper.specs.Find.{takesAt, findTurns, findOf, reportOf, reportOut}
 use Rattle.paper.specs.Convert.{bootAs, scanAs, entryAs, entriesAs, recordsAs, otherMagic, wideRun, convertOf, convertedOut, joined}
 use Rattle.paper.specs.Lister.{digits, linesText, listText, printed}
-use Rattle.paper.specs.Known.{Refusals, Answers, Boot, OldBoot, Entries, Kinds, scan13, scan15, Scans, Rules, Index, Places, file, File, oldFile, OldFile, InBytes, Edges, Conversions, Parts, Agrees, Stands, Renewed, UsedNumber, OldRun, Gaps, Zeros, Prints}
+use Rattle.paper.specs.Known.{Refusals, Answers, Boot, OldBoot, Entries, Kinds, scan13, scan15, Scans, Rules, Index, Places, file, File, oldFile, OldFile, InBytes, Edges, Conversions, Parts, Agrees, Stands, Renewed, UsedNumber, OldRun, Gaps, Finds, Zeros, Prints}
 
 pub refusals : Refusals
 refusals =
@@ -431,6 +432,28 @@ gaps =
       left = refl;
       beyond = refl;
       refused = refl;
+    }
+
+pub finds : Finds
+unfolding number value int16 widened table every write exactly wholeFloat wholeOf ofBits lengthOf isWhole sizeOf wordAt counterOf typeOf shaped inRange classesOf startsOf rule1 rule2 rule3 rule4 rule5 rule6 rising ruledOf threes takesAt findTurns findOf reportOf reportOut scan13 scan15 file oldFile
+finds =
+    record {
+      found = refl;
+      lines = refl;
+      word = refl;
+      one-record = refl;
+      two-records = refl;
+      to-the-end = refl;
+      past-the-end = refl;
+      junk = refl;
+      in-the-index = refl;
+      old = refl;
+      no-room = (refl, refl);
+      short = refl;
+      version-2 = refl;
+      range = refl;
+      cut = refl;
+      no-data = refl;
     }
 
 pub zeroed : Zeros

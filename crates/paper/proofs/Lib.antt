@@ -19,6 +19,7 @@ pub mod Ready
 pub mod Stages
 pub mod Begins
 pub mod Gaps
+pub mod Finding
 pub mod Records
 pub mod Confirming
 pub mod Reading

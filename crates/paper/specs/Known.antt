@@ -1,5 +1,5 @@
 -- Known answers: numbers and bytes of 01 and 02 written out, each against one definition; `at-most` alone names another, the list that is printed.
-use Prim.Native.Nat.{ℕ, _-_}
+use Prim.Native.Nat.{ℕ, _+_, _-_}
 use mathlib.Core.Path.{_≡_}
 use mathlib.Core.Bool.{Bool, true, false}
 use mathlib.Core.List.{List, [], _∷_, _++_}
@@ -35,6 +35,7 @@ use Rattle.paper.specs.Look.{listedOf, listedOut, foundOf, showOf, readO
 use Rattle.paper.specs.Store.{blankSizes, freePlace, emptySlot, highest, manyOf, noJob, saveOf, keepOf, clearOf, usedAfter, sizesAfter, lowered, totalOf, writesOf}
 use Rattle.paper.specs.Step.{agrees, noWrite, stands, isConfirmed}
 use Rattle.paper.specs.Gaps.{gapsOf}
+use Rattle.paper.specs.Find.{reportOf, reportOut}
 use Rattle.paper.specs.Convert.{Carried, bootAs, scanAs, entryAs, wideRun, formChecks, convertOf, convertedOut, joined}
 use Rattle.paper.specs.Lister.{decimal, printed, listText}
 
@@ -607,6 +608,40 @@ pub record Gaps : Type 0 where
   -- a record past N+D is none
   pub beyond : gapsOf (file ++ replicate 512 7) ≡ Is true
   pub refused : gapsOf [] ≡ asked.Refused TooShort
+
+-- ---- scans without an index
+
+-- that file with other bytes in its first scan, in record 3, and in its second, in record 4
+abbrev pub first-with : ℕ → List ℕ → List ℕ
+first-with at bytes = write file (1024 + at) bytes
+
+abbrev pub second-with : ℕ → List ℕ → List ℕ
+second-with at bytes = write file (1536 + at) bytes
+
+-- 02, 2026-06: "the first record, the last by HEADLEN + DATALEN and class 1's third word, SCAN"; record 5 holds no scan
+pub record Finds : Type 0 where
+  pub found : reportOf file (replicate 6 9) ≡ listed.Scans 2
+  pub lines : reportOut file (replicate 8 9) ≡ 3 ∷ 3 ∷ 0 ∷ 4 ∷ 4 ∷ 0 ∷ 9 ∷ 9 ∷ []
+  -- bytes 48 to 55 of the run
+  pub word : reportOut (first-with 48 (1 ∷ 2 ∷ 3 ∷ 4 ∷ 5 ∷ 6 ∷ 7 ∷ 8 ∷ 9 ∷ [])) (replicate 6 9) ≡ 3 ∷ 3 ∷ 72623859790382856 ∷ 4 ∷ 4 ∷ 0 ∷ []
+  -- DATALEN 208, 304 + 208 being 512, and 256: "go on after the last"
+  pub one-record : reportOut (first-with 40 (double 64 106 0)) (replicate 6 9) ≡ 3 ∷ 3 ∷ 0 ∷ 4 ∷ 4 ∷ 0 ∷ []
+  pub two-records : reportOut (first-with 40 (double 64 112 0)) (replicate 6 9) ≡ 3 ∷ 4 ∷ 0 ∷ 9 ∷ 9 ∷ 9 ∷ []
+  -- "the run to the end of the data section": DATALEN 728, 296 + 728 being 1,024, and 732, with a record more lent
+  pub to-the-end : reportOut (second-with 40 (double 64 134 192)) (replicate 6 9) ≡ 3 ∷ 3 ∷ 0 ∷ 4 ∷ 5 ∷ 0 ∷ []
+  pub past-the-end : reportOut (second-with 40 (double 64 134 224) ++ replicate 512 0) (replicate 6 9) ≡ 3 ∷ 3 ∷ 0 ∷ 9 ∷ 9 ∷ 9 ∷ []
+  -- "From record N+1 on", whatever the index holds: junk, and a scan
+  pub junk : reportOut (write file 512 (replicate 512 255)) (replicate 6 9) ≡ 3 ∷ 3 ∷ 0 ∷ 4 ∷ 4 ∷ 0 ∷ []
+  pub in-the-index : reportOut (write file 512 scan13) (replicate 6 9) ≡ 3 ∷ 3 ∷ 0 ∷ 4 ∷ 4 ∷ 0 ∷ []
+  -- both forms; the first scan's magic number is 1
+  pub old : reportOut oldFile (replicate 6 9) ≡ 3 ∷ 3 ∷ 0 ∷ 4 ∷ 4 ∷ 0 ∷ []
+  -- "Refusals: 1 to 5, then 17"
+  pub no-room : (reportOf file (replicate 5 9) ≡ listed.Refused TooSmall) × (reportOut file (replicate 5 9) ≡ replicate 5 9)
+  pub short : reportOf (take 511 file) [] ≡ listed.Refused TooShort
+  pub version-2 : reportOf (write file 31 (2 ∷ [])) [] ≡ listed.Refused UnknownForm
+  pub range : reportOf (write file 3 (1 ∷ [])) [] ≡ listed.Refused OutOfRange
+  pub cut : reportOf (take 2559 file) [] ≡ listed.Refused PastEnd
+  pub no-data : reportOf (write file 7 (0 ∷ [])) [] ≡ listed.Scans 0
 
 -- ---- zeros
 

@@ -7,6 +7,7 @@ pub mod Look
 pub mod Store
 pub mod Step
 pub mod Gaps
+pub mod Find
 pub mod Convert
 pub mod Numbers
 pub mod Lister

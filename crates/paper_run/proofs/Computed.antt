@@ -2,7 +2,7 @@
 use mathlib.Core.Path.{refl}
 use lib.Ieee.{ofBits}
 use Rattle.lent.specs.Number.{number, value, digit, bytes, numbers, int16}
-use Rattle.lent.specs.Lists.{table, every, those}
+use Rattle.lent.specs.Lists.{table, every, those, threes}
 use Rattle.lent.specs.Least.{least}
 use Rattle.lent.specs.Greatest.{greatest}
 use Rattle.lent.specs.Write.{write, zeros, pad}
@@ -17,10 +17,11 @@ use Rattle.paper.specs.Look.{readOf}
 use Rattle.paper.specs.Store.{blankFile, blankOf, freeAt, freePlace, saveOf, clearOf, dataFrom, writesOf}
 use Rattle.paper.specs.Step.{agrees, stepFile, stepJob, stands, stepAnswer}
 use Rattle.paper.specs.Gaps.{leftAt, gapsZero, gapsOf}
+use Rattle.paper.specs.Find.{takesAt, findTurns, findOf, reportOut}
 use Rattle.paper.specs.Lister.{digits, linesText, listText}
 use Rattle.paper_run.specs.Scans.{preamble, double, scanOf}
 use Rattle.paper_run.specs.Files.{file0, file1, file2, file3, file4, file5, broken}
-use Rattle.paper_run.specs.Run.{Run, Lowered, Zeroed, Kept}
+use Rattle.paper_run.specs.Run.{Run, Lowered, Zeroed, Found, Kept}
 
 pub kept : Kept
 unfolding number value int16 table every exactly wholeFloat wholeOf ofBits lengthOf isWhole sizeOf classesOf startsOf rule1 rule2 rule3 rule4 rule5 rule6 rising ruledOf preamble double scanOf
@@ -73,4 +74,13 @@ zeroed =
       cut-clear = refl;
       not-mended = refl;
       stepped-again = refl;
+    }
+
+pub found : Found
+unfolding number value digit bytes numbers int16 table every least greatest write zeros pad same threes exactly wholeFloat wholeOf ofBits lengthOf isWhole sizeOf wordAt counterOf typeOf bootBytes shaped inRange empty inData badAt aboveAt shares sharer sharedAt openOf versionOne entryBytes classesOf startsOf rule1 rule2 rule3 rule4 rule5 rule6 rising ruledOf blankFile freeAt freePlace saveOf dataFrom writesOf agrees stepFile stepJob stands stepAnswer takesAt findTurns findOf reportOut preamble double scanOf file0 file1 file2 file3
+found =
+    record {
+      listed = refl;
+      lost = refl;
+      left = refl;
     }

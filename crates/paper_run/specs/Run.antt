@@ -3,7 +3,8 @@ use Prim.Native.Nat.{ℕ}
 use mathlib.Core.Path.{_≡_}
 use mathlib.Core.Bool.{true, false}
 use mathlib.Core.List.{List, [], _∷_}
-use lib.ListN.{length}
+use lib.ListN.{length, replicate}
+use Rattle.lent.specs.Write.{write}
 use Rattle.paper.specs.declared.answer.Ruled.the-variants.{Keeps}
 use Rattle.paper.specs.declared.answer.Opened.the-variants.{Opens}
 use Rattle.paper.specs.declared.answer.Taken.the-variants.{Accepted}
@@ -18,6 +19,7 @@ use Rattle.paper.specs.Look.{readOf}
 use Rattle.paper.specs.Store.{blankOf, saveOf}
 use Rattle.paper.specs.Step.{stepAnswer}
 use Rattle.paper.specs.Gaps.{gapsOf}
+use Rattle.paper.specs.Find.{reportOut}
 use Rattle.paper.specs.Lister.{listText}
 use Rattle.paper_run.specs.Scans.{scan1, scan2, scan3, scan4, scan5}
 use Rattle.paper_run.specs.Files.{jobAfter, saving, saved, clearing, cleared, about, lent, file0, file1, file2, file3, file4, file5, broken}
@@ -92,6 +94,15 @@ pub record Zeroed : Type 0 where
   pub not-mended : gapsOf (cleared 5 (cleared 3 file2 1) 9) ≡ Is false
   -- "A confirmed replacement stepped again once a later save's data stand in its zeroed records gets 15"
   pub stepped-again : stepAnswer (saved 1 file3 2 scan4) scan3 (jobAfter 7 file2 scan3 (saveOf file2 1 scan3 about .job)) ≡ Refused Differs
+
+-- 02, 2026-06: the scans that are found. That file opens, its free records are zeros, and its scans keep the rules and fill their records: "the reported runs
+-- are the listed ones, each once, in record order". The bytes of their words are all 1, 2 or 3
+pub record Found : Type 0 where
+  pub listed : reportOut file3 (replicate 7 0) ≡ 6 ∷ 6 ∷ 144680345676153346 ∷ 7 ∷ 8 ∷ 217020518514230019 ∷ 0 ∷ []
+  -- "its index pages full of junk and a good record 1"
+  pub lost : reportOut (write file3 512 (replicate 1024 165)) (replicate 6 0) ≡ 6 ∷ 6 ∷ 144680345676153346 ∷ 7 ∷ 8 ∷ 217020518514230019 ∷ []
+  -- after a cut the old scan is left in records 4 and 5, and is found too
+  pub left : reportOut (saved 4 file2 1 scan3) (replicate 9 0) ≡ 4 ∷ 5 ∷ 72340172838076673 ∷ 6 ∷ 6 ∷ 144680345676153346 ∷ 7 ∷ 8 ∷ 217020518514230019 ∷ []
 
 -- the scans keep the rules
 pub record Kept : Type 0 where

@@ -25,7 +25,7 @@ fn size_kept(size: usize, saving: bool) -> bool
 }
 
 // Rule 2: how many classes.
-fn count_kept(n: usize) -> bool
+pub fn count_kept(n: usize) -> bool
     ensures { λ r. ⌜ r ≡ rule2 n ⌝ }
 {
     if n < 13 {

@@ -38,6 +38,7 @@ use Rattle.paper.specs.Scan.{ruledOf, classAt, classEnd, classIn, ofRuled, clas
 use Rattle.paper.specs.Look.{listOf, listChecks, listedOf, heldChecks, slotChecks, otherScan, readChecks, noSlot, foundOf, showOf, readIn, readOf}
 use Rattle.paper.specs.Store.{blankChecks, blankSizes, blankOf, reasonOf, scanChecks, refused, saveOf, keepOf, keepSlot, clearOf}
 use Rattle.paper.specs.Gaps.{gapsOf}
+use Rattle.paper.specs.Find.{findChecks, reportOf}
 use Rattle.paper.specs.Convert.{tooSmall, formChecks, convertChecks, convertOf}
 use Rattle.paper.specs.Step.{agrees, hasLeft, wroteOf, confirmed, confirmOf, stands, stepAnswer}
 use Rattle.paper.proofs.Opening.{boot-sound, boot-fires, open-index, open-refused, refused-fires, then-opens, then-refused, change-old, change-look}
@@ -143,6 +144,10 @@ ruled-small k h (Breaks n) e = omega arith
 pub list-small : (f out : List ℕ) → ListedSmall (listedOf f out)
 unfolding listedOf
 list-small f out = judged ListedSmall listed.Refused (listChecks f out) _ (then-small f (listTail f out) (omega arith, tt)) tt
+
+pub find-small : (f out : List ℕ) → ListedSmall (reportOf f out)
+unfolding reportOf
+find-small f out = judged ListedSmall listed.Refused (findChecks f out) _ (small-fires (findChecks f out) (omega arith, (omega arith, (omega arith, (omega arith, (omega arith, tt)))))) tt
 
 pub gaps-small : (f : List ℕ) → AskedSmall (gapsOf f)
 unfolding gapsOf openOf

@@ -1,9 +1,10 @@
-//! The calls that look: open, the question of the gaps, list, entry, show, read, class and data.
+//! The calls that look: open, the question of the gaps, list, find, entry, show, read, class and data.
 ghost use mathlib.Core.Path.{_≡_};
 ghost use lib.ListN.{length};
 ghost use Rattle.paper.specs.Index.{openOf};
 ghost use Rattle.paper.specs.Look.{listedOf, listedOut, foundOf, showOf, readOf};
 ghost use Rattle.paper.specs.Gaps.{gapsOf};
+ghost use Rattle.paper.specs.Find.{reportOf, reportOut};
 ghost use Rattle.paper.specs.Scan.{classOf, dataOf};
 ghost use Rattle.sdd.specs.Face.{openedC, listedC, askedC, spanC, foundC, SpanSmall, ListedSmall, AskedSmall};
 use super::face::CAnswer;
@@ -103,6 +104,14 @@ pub extern "C" fn sdd_list(file: &[u8], out: &mut [u32]) -> CListed
     ensures { λ r. ⌜ now (out .exit) ≡ listedOut (now (file .entry)) (now (out .entry)) ⌝ }
 {
     counted(look::list(file, out))
+}
+
+#[no_mangle]
+pub extern "C" fn sdd_find(file: &[u8], out: &mut [u64]) -> CListed
+    ensures { λ r. ⌜ r ≡ listedC (reportOf (now (file .entry)) (now (out .entry))) ⌝ }
+    ensures { λ r. ⌜ now (out .exit) ≡ reportOut (now (file .entry)) (now (out .entry)) ⌝ }
+{
+    counted(find::find(file, out))
 }
 
 #[no_mangle]

@@ -6,7 +6,7 @@
 use crate::case::Case;
 use crate::clock::{Contender, Spread, contest, turns};
 use crate::{suite, table};
-use face::{Answer, Calls, Refusal};
+use face::{Answer, Calls, Listed, Refusal};
 use libc::{RTLD_LOCAL, RTLD_NOW, c_void, dlopen, dlsym};
 use std::cell::RefCell;
 use std::ffi::CString;
@@ -43,6 +43,11 @@ unsafe extern "C" fn not_asked(_: *const u8, _: usize) -> Answer {
     unreachable!("the library has no such call")
 }
 
+/// The same for the one that searches.
+unsafe extern "C" fn not_searched(_: *const u8, _: usize, _: *mut u64, _: usize) -> Listed {
+    unreachable!("the library has no such call")
+}
+
 /// The calls of a shared object. An earlier library may answer with fewer fields: it is given memory for all of today's.
 /// Of what it answers `why`, `done` and `first` are looked at, which stand where they always did. Its job goes back to it
 /// byte for byte as it came, and it takes of that as many bytes as its own job has; so a shorter job does no harm.
@@ -72,6 +77,7 @@ fn load(path: &str) -> Calls {
         to_current: not_there,
         to_old: not_there,
         gaps_zero: not_asked,
+        find: not_searched,
     }
 }
 

@@ -1,8 +1,8 @@
 //! The calls that are measured, as the library and plain Rust make them.
 
-use crate::file::{File, M};
+use crate::file::{File, Fill, M};
 use crate::map::Map;
-use face::{Answer, Calls, Job, Opened, Refusal, Stepped};
+use face::{Answer, Calls, Job, Listed, Opened, Refusal, Stepped};
 use std::fmt;
 use std::hint::black_box;
 use std::ops::Range;
@@ -24,6 +24,8 @@ pub enum Call {
     Data,
     /// Whether the data records of no scan are zeros: they are, so all of them are looked at.
     Gaps,
+    /// The scans in the data records, which hold this, without the index.
+    Find(Fill),
     Blank,
     /// The beginning of a save of so many bytes to the last slot.
     BeginSave(usize),
@@ -73,6 +75,10 @@ impl fmt::Display for Call {
             Call::Class => f.write_str("class"),
             Call::Data => f.write_str("data"),
             Call::Gaps => f.write_str("gaps"),
+            Call::Find(Fill::Zeros) => f.write_str("find in zeros"),
+            Call::Find(Fill::Scans) => f.write_str("find scans"),
+            Call::Find(Fill::Junk) => f.write_str("find in junk"),
+            Call::Find(Fill::Broken) => f.write_str("find in broken scans"),
             Call::Blank => f.write_str("blank"),
             Call::BeginSave(bytes) => write!(f, "begin save {bytes}"),
             Call::BeginKeep(bytes) => write!(f, "begin keep {bytes}"),
@@ -93,6 +99,8 @@ pub struct Stage {
     pub file: File,
     pub scan: Vec<u8>,
     out: Vec<u32>,
+    /// The row of a search: no file here has more scans.
+    finds: Vec<u64>,
     /// The second buffer of a conversion, which has N records; of any other call it is not used.
     pub second: Map,
     /// The slot of a job.
@@ -119,13 +127,17 @@ impl Stage {
             Call::SaveNext(_) => file.plan.used + 1,
             _ => file.plan.slots,
         };
-        let mut stage = Stage { file, scan, out, second, slot, boot: [0; 32], entry: [0; M], old: 0..0 };
+        let finds = vec![0; 3 * 4096];
+        let mut stage = Stage { file, scan, out, finds, second, slot, boot: [0; 32], entry: [0; M], old: 0..0 };
         if matches!(call, Call::Clear(_)) {
             let saved = stage.save(&plain::calls());
             assert!(saved.done == 1, "no scan to clear: {:?}", saved.why);
         }
         if call == Call::Gaps {
             stage.file.touch_gaps();
+        }
+        if let Call::Find(what) = call {
+            stage.file.fill(what);
         }
         if call.is_job() {
             stage.old = stage.file.records(stage.slot);
@@ -164,6 +176,7 @@ impl Stage {
                 Call::Class => _ = black_box((calls.class)(scan, scan_len, 13)),
                 Call::Data => _ = black_box((calls.data)(scan, scan_len)),
                 Call::Gaps => _ = black_box((calls.gaps_zero)(at, len)),
+                Call::Find(_) => _ = black_box((calls.find)(at, len, self.finds.as_mut_ptr(), self.finds.len())),
                 Call::Blank => _ = black_box((calls.blank)(at, len, n, l, m)),
                 Call::BeginSave(_) => {
                     black_box((calls.save)(at, len, self.slot(), scan, scan_len, ABOUT.as_ptr()));
@@ -209,6 +222,15 @@ impl Stage {
     pub fn asked(&self, calls: &Calls) -> Answer {
         // SAFETY: as in `make`.
         unsafe { (calls.gaps_zero)(self.file.map.pointer(), self.file.map.size()) }
+    }
+
+    /// What a search answers, and the row that it leaves.
+    pub fn found(&mut self, calls: &Calls) -> (Listed, Vec<u64>) {
+        self.finds.fill(7);
+        let (at, len) = (self.file.map.pointer(), self.file.map.size());
+        // SAFETY: as in `make`.
+        let listed = unsafe { (calls.find)(at, len, self.finds.as_mut_ptr(), self.finds.len()) };
+        (listed, self.finds.clone())
     }
 
     /// A save from its beginning to its last step's answer.

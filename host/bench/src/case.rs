@@ -2,10 +2,11 @@
 
 use crate::call::{Call, Stage};
 use crate::clock::{Contender, Spread, contest, turns};
-use crate::file::{File, Form, M, Plan};
+use crate::file::{File, Fill, Form, M, Plan};
 use crate::limit;
 use face::Calls;
 use std::cell::RefCell;
+use std::hint::black_box;
 use std::ops::Range;
 use std::time::Duration;
 
@@ -24,7 +25,7 @@ pub struct Times {
     pub library: f64,
     pub plain: f64,
     /// The decoding passes that the call cannot do without, and one copy of the scan, one fill of N records or of the old
-    /// scan's, or one pass of C's memcmp over the gaps.
+    /// scan's, or one pass of C's memcmp over the gaps; of a search one look at each data record.
     pub limit: f64,
     /// An open of the same file by the library.
     pub open: f64,
@@ -51,7 +52,7 @@ impl Case {
     /// How often a call judges the index: at its beginning, and a whole job once more when it is confirmed.
     fn judgements(&self) -> usize {
         match self.call {
-            Call::Blank => 0,
+            Call::Blank | Call::Find(_) => 0,
             job if job.is_job() => 2,
             _ => 1,
         }
@@ -74,17 +75,27 @@ impl Case {
             let asked = [library, plain].map(|calls| stage.asked(calls));
             assert!(asked[0] == asked[1] && asked[0].yes == 1, "{}: {asked:?}", self.name());
         }
+        if let Call::Find(what) = self.call {
+            let found = [library, plain].map(|calls| stage.found(calls));
+            let scans = if what == Fill::Scans { self.plan.used } else { 0 };
+            let fine = found[0] == found[1] && found[0].0.scans == scans as u64 && found[0].0.why.number == 0;
+            assert!(fine, "{}: {:?} and {:?}, and {scans} scans are there", self.name(), found[0].0, found[1].0);
+        }
         if self.call.is_job() {
             let done = [library, plain].map(|calls| stage.done(calls, self.call));
             assert_eq!(done[0], done[1], "{}: the two do not end the same", self.name());
         }
     }
 
-    /// The one pass over bytes that the call cannot do without, beside its judgements: of these gaps, of a scan that is copied
-    /// to its place and of the old one's records, of N records.
+    /// The one pass over bytes that the call cannot do without, beside its judgements: of these gaps, of the data
+    /// records' beginnings, of a scan that is copied to its place and of the old one's records, of N records.
     fn pass(&self, stage: &mut Stage, gaps: &[Range<usize>], place: usize, copied: &[u8]) {
         let (file, l) = (stage.file.map.bytes(), self.plan.l());
         match self.call {
+            Call::Find(_) => {
+                let data = stage.file.data();
+                black_box(limit::beginnings(&stage.file.map.bytes()[data], l));
+            }
             Call::Blank => file[..self.plan.n() * l].fill(0),
             Call::Gaps => assert!(limit::zeros(file, l, gaps)),
             Call::ToCurrent | Call::ToOld => stage.second.bytes().fill(0),

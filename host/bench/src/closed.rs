@@ -2,7 +2,7 @@
 //! process, so this runs in a process of its own.
 
 use crate::call::{Call, Stage};
-use crate::file::{File, Form, M, Order, Plan};
+use crate::file::{File, Fill, Form, M, Order, Plan};
 use crate::suite::{self, MOST, OLD_RUN};
 use face::Calls;
 use std::process::Command;
@@ -34,7 +34,8 @@ fn convert(calls: &Calls, call: Call, form: Form, order: Order) {
 }
 
 /// Makes every call with closed pages: all data records for the calls that need none of them, all but the first of its
-/// own for a read, all but its own and the old scan's for a job, all but the gaps for the question of these.
+/// own for a read, all but its own and the old scan's for a job, all but the gaps for the question of these; for the search
+/// without an index the index, and all but the first record of each scan.
 pub fn make(calls: &Calls) {
     let needs_none = [
         Call::Open,
@@ -66,6 +67,7 @@ pub fn make(calls: &Calls) {
         }
         for form in Form::ALL {
             gaps(calls, order, form);
+            find(calls, order, form);
         }
     }
 }
@@ -93,6 +95,19 @@ fn gaps(calls: &Calls, order: Order, form: Form) {
         stage.file.map.open(gap);
     }
     assert!(stage.asked(calls).yes == 1, "the gaps are zeros");
+}
+
+/// The search without an index, with the index closed, all records of the scans but their first ones, and those past the
+/// last data record. A record is a page long, as above.
+fn find(calls: &Calls, order: Order, form: Form) {
+    let plan = Plan { slots: 4096, m: 512, used: 4000, run: 2, gap: 1, order, room: 16_384, form };
+    let (mut stage, l) = (Stage::new(File::new(plan), Call::Find(Fill::Scans)), plan.l());
+    let gaps = stage.file.gaps();
+    let firsts: Vec<_> = (1..=plan.used).map(|slot| stage.file.records(slot).start).collect();
+    stage.file.map.close(l..stage.file.map.size());
+    gaps.into_iter().chain(firsts.into_iter().map(|at| at..at + l)).for_each(|part| stage.file.map.open(part));
+    let (listed, _) = stage.found(calls);
+    assert!(listed.scans == plan.used as u64, "{listed:?}");
 }
 
 /// A read with all records closed but the first of its own.

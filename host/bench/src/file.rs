@@ -56,6 +56,19 @@ impl fmt::Display for Order {
     }
 }
 
+/// What the data records hold where scans are looked for in them without the index.
+#[derive(Clone, Copy, Debug, PartialEq, Eq)]
+pub enum Fill {
+    /// Zeros.
+    Zeros,
+    /// The scans of the index, each in all of its records, with its slot as its number.
+    Scans,
+    /// Bytes by chance.
+    Junk,
+    /// In every record the beginning of a scan that breaks rule 5, the last that is asked of it.
+    Broken,
+}
+
 /// What a file is like.
 #[derive(Clone, Copy, Debug)]
 pub struct Plan {
@@ -152,8 +165,7 @@ impl File {
         let size = self.plan.form.word();
         let home = self.plan.home(slot);
         let entry = &self.map.bytes()[home..];
-        let word = |bytes: &[u8]| bytes.iter().fold(0, |word, byte| word << 8 | usize::from(*byte));
-        (word(&entry[..size]), word(&entry[size..2 * size]))
+        (number(&entry[..size]), number(&entry[size..2 * size]))
     }
 
     /// The bytes of a slot's records, none where it is empty.
@@ -186,12 +198,51 @@ impl File {
         }
     }
 
+    /// The bytes of all data records.
+    pub fn data(&mut self) -> Range<usize> {
+        let (n, l, word) = (self.plan.n(), self.plan.l(), self.plan.form.word());
+        n * l..(n + number(&self.map.bytes()[word..2 * word])) * l
+    }
+
+    /// Fills the data records for a search. A file without scans gets as many of them as it has room for. All of them have
+    /// pages of their own, as the bytes of a file that was read; but of a scan the first record is enough.
+    pub fn fill(&mut self, what: Fill) {
+        let Plan { room, used, run, form, .. } = self.plan;
+        let l = self.plan.l();
+        if used == 0 {
+            put(self.map.bytes(), form, form.word(), room - self.plan.n());
+        }
+        let data = self.data();
+        match what {
+            Fill::Zeros => self.map.bytes()[data].fill(0),
+            Fill::Junk => fill_by_chance(&mut self.map.bytes()[data]),
+            Fill::Broken => {
+                let mut scan = sample::scan(l, 9);
+                scan[40..48].copy_from_slice(&(-8f64).to_be_bytes());
+                self.map.bytes()[data].chunks_exact_mut(l).for_each(|record| record.copy_from_slice(&scan));
+            }
+            Fill::Scans => {
+                let mut scan = sample::scan(run * l, 9);
+                for slot in 1..=used {
+                    scan[48..56].copy_from_slice(&(slot as f64).to_be_bytes());
+                    let at = self.records(slot).start;
+                    self.map.bytes()[at..at + l].copy_from_slice(&scan[..l]);
+                }
+            }
+        }
+    }
+
     /// Makes the last slot in use share a record with the first one.
     pub fn share(mut self) -> File {
         let (first, last) = self.run(1);
         put_run(self.map.bytes(), &self.plan, self.plan.used, first, last);
         self
     }
+}
+
+/// A big-endian number.
+fn number(bytes: &[u8]) -> usize {
+    bytes.iter().fold(0, |word, byte| word << 8 | usize::from(*byte))
 }
 
 /// Puts a word of the form.
@@ -218,12 +269,25 @@ fn put_run(bytes: &mut [u8], plan: &Plan, slot: usize, first: usize, last: usize
 /// 0 to `n` - 1 in random order.
 fn shuffled(n: usize) -> Vec<usize> {
     let mut all: Vec<usize> = (0..n).collect();
-    let mut state = 0x9e37_79b9_7f4a_7c15_u64;
+    let mut dice = dice();
     for i in (1..n).rev() {
+        all.swap(i, (dice() % (i as u64 + 1)) as usize);
+    }
+    all
+}
+
+fn fill_by_chance(bytes: &mut [u8]) {
+    let mut dice = dice();
+    bytes.chunks_exact_mut(8).for_each(|chunk| chunk.copy_from_slice(&dice().to_be_bytes()));
+}
+
+/// Numbers by chance, the same at each run.
+fn dice() -> impl FnMut() -> u64 {
+    let mut state = 0x9e37_79b9_7f4a_7c15_u64;
+    move || {
         state ^= state << 13;
         state ^= state >> 7;
         state ^= state << 17;
-        all.swap(i, (state % (i as u64 + 1)) as usize);
+        state
     }
-    all
 }

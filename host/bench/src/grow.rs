@@ -2,7 +2,7 @@
 
 use crate::call::{Call, Stage};
 use crate::clock::{Contender, contest, turns};
-use crate::file::{File, Form, M, Order, Plan};
+use crate::file::{File, Fill, Form, M, Order, Plan};
 use crate::limit;
 use crate::suite::{MOST, OLD_MOST, OLD_RUN};
 use face::Calls;
@@ -113,6 +113,15 @@ pub fn with_records(who: &str, calls: &Calls, budget: Duration) -> Vec<Growth> {
         Plan { gap: (room - empty.n() - 200) / 1024 - 1, ..empty }
     });
     lines(who, calls, &plans, "records", budget)
+}
+
+/// The search without the index with the data records, 4,096 to 65,536 of them, in each of which it has every rule to ask.
+pub fn of_find(who: &str, calls: &Calls, budget: Duration) -> Growth {
+    let none = Plan { slots: 8, m: M, used: 0, run: 1, gap: 0, order: Order::Rising, room: 0, form: Form::Current };
+    let plans = SLOTS.map(|size| Plan { room: 16 * size, ..none });
+    let sizes = plans.iter().map(|plan| plan.room).collect();
+    let times = times(calls, Call::Find(Fill::Broken), &plans, budget);
+    Growth { what: format!("{who}: find"), by: "records", sizes, times }
 }
 
 /// The decoding pass with the slots, for comparison: caches alone make it no straight line.

@@ -54,6 +54,12 @@ pub fn zeros(file: &[u8], l: usize, parts: &[Range<usize>]) -> bool {
     parts.iter().all(|part| file[part.clone()].chunks_exact(l).all(is_zeros))
 }
 
+/// How many of these records have a number of classes that a scan can have: one look at each of them.
+pub fn beginnings(data: &[u8], l: usize) -> usize {
+    let may_begin = |record: &&[u8]| (13..=15).contains(&u16::from_be_bytes([record[0], record[1]]));
+    data.chunks_exact(l).filter(may_begin).count()
+}
+
 /// The records compared with the scan.
 pub fn same(file: &[u8], at: usize, scan: &[u8]) -> bool {
     black_box(&file[at..at + scan.len()]) == black_box(scan)

@@ -57,6 +57,7 @@ fn measure_all(words: &[String], library: &Calls) {
     let mut growths = grow::with_slots("library", library, effort.growth);
     if !quick {
         growths.extend(grow::with_records("library", library, effort.growth));
+        growths.push(grow::of_find("library", library, effort.growth));
         growths.extend(grow::with_slots("plain", &plain::calls(), effort.growth));
         growths.push(grow::of_limit(effort.growth));
         table::print_growths(&growths);

@@ -1,7 +1,7 @@
 //! The deepest stack of a call: a thread's stack is painted before it starts, and looked at after it has ended.
 
 use crate::call::{Call, Stage};
-use crate::file::{File, Form, M, Order, Plan};
+use crate::file::{File, Fill, Form, M, Order, Plan};
 use crate::map::Map;
 use crate::suite::{self, MOST, OLD_RUN};
 use face::Calls;
@@ -78,6 +78,7 @@ pub fn depths(calls: &Calls) -> Vec<Depth> {
         ("to_current", Call::ToCurrent),
         ("to_old", Call::ToOld),
         ("gaps_zero", Call::Gaps),
+        ("find", Call::Find(Fill::Scans)),
     ];
     let mut depths: Vec<Depth> = alone
         .map(|(name, call)| Depth { name, bytes: deepest(call, &|stage| depth(&mut || stage.make(calls, call))) })

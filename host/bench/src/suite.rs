@@ -2,7 +2,7 @@
 
 use crate::call::Call;
 use crate::case::Case;
-use crate::file::{Form, M, Order, Plan};
+use crate::file::{Fill, Form, M, Order, Plan};
 
 /// The most records that a file has.
 pub const MOST: usize = 1_000_000;
@@ -90,6 +90,22 @@ fn gaps(orders: &[Order]) -> Vec<Case> {
     cases
 }
 
+/// The search without the index: 1,000,000 records of zeros; 4,096 scans one after the other, of 1 and of 8 records, and as
+/// many as the old form can name; 32 MiB of junk, and of records that break only the last rule.
+fn finds() -> Vec<Case> {
+    let none = Plan { used: 0, ..full(8, Order::Rising, 1) };
+    let scans = |run| Plan { room: 513 + 4_096 * run, ..full(4096, Order::Rising, run) };
+    vec![
+        case(Call::Find(Fill::Zeros), none),
+        case(Call::Find(Fill::Zeros), Plan { form: Form::Old, room: OLD_MOST, ..none }),
+        case(Call::Find(Fill::Scans), scans(1)),
+        case(Call::Find(Fill::Scans), scans(8)),
+        case(Call::Find(Fill::Scans), old(Order::Rising, OLD_RUN)),
+        case(Call::Find(Fill::Junk), Plan { room: 65_536, ..none }),
+        case(Call::Find(Fill::Broken), Plan { room: 65_536, ..none }),
+    ]
+}
+
 /// Whole jobs: 1,000 records of which few are used, 100,000 and 1,000,000 with an index that is nearly full.
 fn jobs(orders: &[Order], sizes: &[usize]) -> Vec<Case> {
     let mut cases = Vec::new();
@@ -127,11 +143,12 @@ pub fn before() -> Vec<Case> {
 /// Every line.
 pub fn all() -> Vec<Case> {
     let orders = [Order::Rising, Order::Random];
-    [opens(1024), opens(4096), looks(), olds(), moves(), gaps(&orders), jobs(&orders, &[512, 4_096, 65_536])].concat()
+    let jobs = jobs(&orders, &[512, 4_096, 65_536]);
+    [opens(1024), opens(4096), looks(), olds(), moves(), gaps(&orders), finds(), jobs].concat()
 }
 
 /// Those that the verdicts rest on most.
 pub fn quick() -> Vec<Case> {
     let orders = [Order::Rising, Order::Random];
-    [opens(4096), looks(), olds(), moves(), gaps(&orders[..1]), jobs(&orders, &[65_536])].concat()
+    [opens(4096), looks(), olds(), moves(), gaps(&orders[..1]), finds(), jobs(&orders, &[65_536])].concat()
 }

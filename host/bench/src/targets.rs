@@ -56,6 +56,11 @@ fn is_gaps(line: &Line) -> bool {
     line.case.call == Call::Gaps
 }
 
+/// Whether a line is of the search without the index, in either form.
+fn is_find(line: &Line) -> bool {
+    matches!(line.case.call, Call::Find(_))
+}
+
 /// Whether a line is of the old form.
 fn is_old(line: &Line) -> bool {
     line.case.plan.form == Form::Old
@@ -96,9 +101,13 @@ pub fn verdicts(lines: &[Line], growths: &[Growth], stack: usize, left_alone: bo
     vec![
         over_limit("open of a full index, rising, over the decoding pass", 2.5, opens().filter(|line| rises(line))),
         over_limit("open of a full index, any other order, the same", 6.0, opens().filter(|line| !rises(line))),
-        over_plain("any line over plain Rust", of(&|line| !is_move(line) && !is_old(line))),
-        over_plain("any line of the old form over plain Rust", of(&|line| !is_move(line) && is_old(line))),
+        over_plain("any line over plain Rust", of(&|line| !is_move(line) && !is_find(line) && !is_old(line))),
+        over_plain(
+            "any line of the old form over plain Rust",
+            of(&|line| !is_move(line) && !is_find(line) && is_old(line)),
+        ),
         over_plain("any conversion over plain Rust", of(&is_move)),
+        over_plain("any search without the index over plain Rust", of(&is_find)),
         over_limit("the question of the gaps over one pass of memcmp", GAPS_LIMIT, of(&is_gaps)),
         Verdict { target: "growth with the slots, exponent", value: exponent, limit: 1.1, place: what },
         worst("a whole save over two opens and 1.2 times its copies", 1.0, saves, |line| {

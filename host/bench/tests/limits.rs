@@ -22,11 +22,19 @@ fn no_call_grows_with_the_records() {
     }
 }
 
+#[test]
+fn the_search_without_the_index_grows_with_the_records_and_no_faster() {
+    let growth = grow::of_find("library", &sdd::calls(), Duration::from_millis(100));
+    let exponent = growth.exponent().unwrap_or(0.0);
+    // it looks at each of them, and what does not fit in the nearest cache costs more
+    assert!((0.7..1.4).contains(&exponent), "it grows with the power {exponent:.2}: {:?}", growth.times);
+}
+
 /// The stand-in has its tables elsewhere, so that the figures are only limits for it.
 #[test]
 fn every_call_keeps_to_the_stack_that_is_said_of_it() {
     let measured = stack::depths(&sdd::calls());
-    assert_eq!(measured.iter().map(|depth| depth.name).collect::<std::collections::BTreeSet<_>>().len(), 15);
+    assert_eq!(measured.iter().map(|depth| depth.name).collect::<std::collections::BTreeSet<_>>().len(), 16);
     for (name, most) in sdd::stack::ALL {
         let depth = measured.iter().find(|depth| depth.name == name).expect("every call is measured").bytes;
         assert!(depth <= most, "sdd_{name} uses {depth} bytes of stack, and {most} are said to be enough");

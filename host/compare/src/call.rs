@@ -14,7 +14,7 @@ pub struct Lent<'a> {
     pub second: &'a [u8],
 }
 
-/// One of the fifteen calls; what it is lent is the world's.
+/// One of the sixteen calls; what it is lent is the world's.
 #[allow(missing_docs)]
 #[derive(Clone, Copy, Debug)]
 pub enum Call {
@@ -33,10 +33,11 @@ pub enum Call {
     ToCurrent,
     ToOld,
     GapsZero,
+    Find { out_len: usize },
 }
 
 /// The names of the calls, in the header's order.
-pub const NAMES: [&str; 15] = [
+pub const NAMES: [&str; 16] = [
     "open",
     "list",
     "entry",
@@ -52,6 +53,7 @@ pub const NAMES: [&str; 15] = [
     "to_current",
     "to_old",
     "gaps_zero",
+    "find",
 ];
 
 impl Call {
@@ -73,6 +75,16 @@ impl Call {
             Call::ToCurrent => 12,
             Call::ToOld => 13,
             Call::GapsZero => 14,
+            Call::Find { .. } => 15,
+        }
+    }
+
+    /// The row lent for the answer: how many elements it has, and how many bytes one has.
+    pub fn row(&self) -> (usize, usize) {
+        match *self {
+            Call::List { out_len } => (out_len, 4),
+            Call::Find { out_len } => (out_len, 8),
+            _ => (0, 4),
         }
     }
 }
@@ -167,8 +179,8 @@ pub struct Expected {
     pub answer: Answer,
     /// The change of the file, if any.
     pub write: Option<Write>,
-    /// The elements written to `out`.
-    pub out: Vec<u32>,
+    /// The elements written to `out`, whatever the bits of one.
+    pub out: Vec<u64>,
     /// The change of the second buffer, if any.
     pub converted: Option<Write>,
 }
@@ -185,7 +197,9 @@ impl Expected {
         let only = Expected::only;
         match *call {
             Call::Open => only(Answer::Opened(opened(file))),
-            Call::List { out_len } => listed(file, out_len),
+            Call::List { out_len } => {
+                listed(model::list(file, out_len).map(|out| out.into_iter().map(u64::from).collect()))
+            }
             Call::Entry { slot } => only(Answer::Entry(entry(file, slot))),
             Call::Show { slot } => only(span(model::show(file, slot))),
             Call::Read { slot } => only(span(model::read(file, slot))),
@@ -199,6 +213,7 @@ impl Expected {
             Call::ToCurrent => converted(model::to_current(file, second.len())),
             Call::ToOld => converted(model::to_old(file, second.len())),
             Call::GapsZero => only(Answer::YesNo(yes_or_no(model::gaps_zero(file)))),
+            Call::Find { out_len } => listed(model::find(file, out_len)),
         }
     }
 }
@@ -229,8 +244,9 @@ fn opened(file: &[u8]) -> Opened {
     }
 }
 
-fn listed(file: &[u8], out_len: usize) -> Expected {
-    let (why, out) = match model::list(file, out_len) {
+/// A listing or a search: three elements for each scan.
+fn listed(answer: model::Answer<Vec<u64>>) -> Expected {
+    let (why, out) = match answer {
         Err(why) => (refusal(why), Vec::new()),
         Ok(out) => (Refusal::NONE, out),
     };

@@ -5,11 +5,12 @@
 //! guard pages, and the whole answer and all memory are compared. The cases
 //! come in themes; [`run`] mixes them from a seed.
 //!
-//! From the ground up: `rng` and `call`, `cases` and `tally` on `moves`, `used` and `gaps`, `world` with its subjects (`linked` on
+//! From the ground up: `rng` and `call`, `cases` and `tally` on `moves`, `used`, `gaps` and `finds`, `world` with its subjects (`linked` on
 //! `guarded`, `recorder`), `themes`, `run`. Apart from these, on `rng` alone, `lengths`.
 
 mod call;
 mod cases;
+mod finds;
 mod gaps;
 mod guarded;
 mod lengths;

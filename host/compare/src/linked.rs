@@ -10,8 +10,8 @@ use std::ptr::null_mut;
 
 /// A file above this size is not compared whole after every call, but at the end of its round.
 const LARGE: usize = 16 << 20;
-/// What the elements for a listing are filled with before the call.
-const UNTOUCHED: u32 = 0x5a5a_5a5a;
+/// What the elements for a listing or a search are filled with before the call.
+const UNTOUCHED: u8 = 0x5a;
 
 /// Anything with the library's face.
 pub struct Linked {
@@ -41,7 +41,7 @@ impl Linked {
         let second_len = self.second.bytes().len();
         let file = Linked::pointer(self.nulls, &mut self.file);
         let scan = Linked::pointer(self.nulls, &mut self.scan);
-        let out_at = Linked::pointer(self.nulls, out).cast::<u32>();
+        let out_at = Linked::pointer(self.nulls, out);
         let second = Linked::pointer(self.nulls, &mut self.second);
         let about = self.about.pointer();
         let calls = &self.calls;
@@ -50,7 +50,7 @@ impl Linked {
         unsafe {
             match *call {
                 Call::Open => Answer::Opened((calls.open)(file, file_len)),
-                Call::List { out_len } => Answer::Listed((calls.list)(file, file_len, out_at, out_len)),
+                Call::List { out_len } => Answer::Listed((calls.list)(file, file_len, out_at.cast(), out_len)),
                 Call::Entry { slot } => Answer::Entry((calls.entry_at)(file, file_len, slot)),
                 Call::Show { slot } => Answer::Span((calls.show)(file, file_len, slot)),
                 Call::Read { slot } => Answer::Span((calls.read)(file, file_len, slot)),
@@ -64,15 +64,16 @@ impl Linked {
                 Call::ToCurrent => Answer::Refusal((calls.to_current)(file, file_len, second, second_len)),
                 Call::ToOld => Answer::Refusal((calls.to_old)(file, file_len, second, second_len)),
                 Call::GapsZero => Answer::YesNo((calls.gaps_zero)(file, file_len)),
+                Call::Find { out_len } => Answer::Listed((calls.find)(file, file_len, out_at.cast(), out_len)),
             }
         }
     }
 
-    /// The memory for a listing, filled with what should stay where nothing is written.
+    /// The memory for a listing or a search, filled with what should stay where nothing is written.
     fn out(&self, call: &Call) -> Guarded {
-        let out_len = if let Call::List { out_len } = call { *out_len } else { 0 };
+        let (elements, width) = call.row();
         let side = if self.nulls { Side::Left } else { Side::Right };
-        Guarded::copy(&UNTOUCHED.to_ne_bytes().repeat(out_len), side)
+        Guarded::copy(&vec![UNTOUCHED; elements * width], side)
     }
 }
 
@@ -112,11 +113,7 @@ impl Subject for Linked {
         same("the scan", self.scan.bytes(), held.scan)?;
         same("the entry's bytes", self.about.bytes(), held.about)?;
         same("the second buffer", self.second.bytes(), held.second)?;
-        let mut wanted = UNTOUCHED.to_ne_bytes().repeat(out.bytes().len() / 4);
-        for (i, element) in expected.out.iter().enumerate() {
-            wanted[4 * i..][..4].copy_from_slice(&element.to_ne_bytes());
-        }
-        same("the listing", out.bytes(), &wanted)?;
+        same("the row of elements", out.bytes(), &wanted_row(call, expected))?;
         let beside = [&self.file, &self.scan, &self.about, &self.second, &out];
         if beside.into_iter().any(|memory| !memory.slack_stands()) {
             return Err("something was written beside what was lent".to_string());
@@ -127,6 +124,19 @@ impl Subject for Linked {
     fn whole_file(&mut self, file: &[u8]) -> Result<(), String> {
         same("the file", self.file.bytes(), file)
     }
+}
+
+/// The row as it should be after the call: the expected elements, and after them what was there.
+fn wanted_row(call: &Call, expected: &Expected) -> Vec<u8> {
+    let (elements, width) = call.row();
+    let mut row = vec![UNTOUCHED; elements * width];
+    for (place, element) in row.chunks_exact_mut(width).zip(&expected.out) {
+        match width {
+            4 => place.copy_from_slice(&(*element as u32).to_ne_bytes()),
+            _ => place.copy_from_slice(&element.to_ne_bytes()),
+        }
+    }
+    row
 }
 
 fn side(rng: &mut Rng) -> Side {

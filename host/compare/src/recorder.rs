@@ -14,11 +14,11 @@
 //! | E | | the end |
 //!
 //! All numbers are 64 bits, a call's number is a byte. A call's arguments are
-//! its numbers in the header's order (a list: the length of `out`; a step: the
-//! job's fields). An answer is a length and the bytes of [`Answer::bytes`];
+//! its numbers in the header's order (a list and a find: the length of `out`; a
+//! step: the job's fields). An answer is a length and the bytes of [`Answer::bytes`];
 //! the writes are a count and then place, length and bytes of each; the
-//! elements are a count and 32 bits each; what is converted is a length and the
-//! bytes that the second buffer then begins with.
+//! elements are a count and 32 bits each, of a find 64; what is converted is a
+//! length and the bytes that the second buffer then begins with.
 //!
 //! [`Answer::bytes`]: crate::call::Answer::bytes
 
@@ -61,7 +61,7 @@ impl<W: Write> Recorder<W> {
     fn arguments(&mut self, call: &Call) {
         match *call {
             Call::Open | Call::Data | Call::Keep | Call::ToCurrent | Call::ToOld | Call::GapsZero => (),
-            Call::List { out_len } => self.number(out_len as u64),
+            Call::List { out_len } | Call::Find { out_len } => self.number(out_len as u64),
             Call::Entry { slot } | Call::Show { slot } | Call::Read { slot } => self.number(slot),
             Call::Save { slot } | Call::Clear { slot } => self.number(slot),
             Call::Class { number } => self.number(number),
@@ -113,7 +113,8 @@ impl<W: Write> Subject for Recorder<W> {
             self.row(&write.bytes);
         }
         self.number(expected.out.len() as u64);
-        expected.out.iter().for_each(|element| self.put(&element.to_le_bytes()));
+        let (_, width) = call.row();
+        expected.out.iter().for_each(|element| self.put(&element.to_le_bytes()[..width]));
         self.row(expected.converted.as_ref().map_or(&[], |write| &write.bytes));
         Ok(())
     }

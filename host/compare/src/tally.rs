@@ -1,7 +1,8 @@
 //! What was reached: calls, refusals and reasons, the refusals of old files once more by themselves, conversions, what
-//! jobs did to U, and what became of their old runs and of the gaps.
+//! jobs did to U, what became of their old runs and of the gaps, and what searches came upon.
 
 use crate::call::{Answer, Call, Lent, NAMES};
+use crate::finds::Finds;
 use crate::gaps::Gaps;
 use crate::moves::Moves;
 use crate::used::Used;
@@ -21,7 +22,7 @@ const OLD: [(&str, &[usize]); 3] = [
 #[derive(Clone, Default, PartialEq, Eq)]
 pub struct Tally {
     /// By call, in the header's order.
-    pub calls: [u64; 15],
+    pub calls: [u64; NAMES.len()],
     /// By refusal; the element at 0 counts accepted calls.
     pub refusals: [u64; NUMBERS],
     /// By the reason in refusal 11; the element at 0 is not used.
@@ -36,13 +37,15 @@ pub struct Tally {
     used: Used,
     /// What became of old runs, and what was answered of gaps.
     gaps: Gaps,
+    /// What searches for scans came upon.
+    finds: Finds,
 }
 
 /// Which of the rows of `OLD` a call counts for; none where the file's form does not matter to it.
 fn old_row(call: &Call) -> Option<usize> {
     match call {
         Call::Open | Call::List { .. } | Call::Entry { .. } | Call::Show { .. } | Call::Read { .. } => Some(0),
-        Call::GapsZero => Some(0),
+        Call::GapsZero | Call::Find { .. } => Some(0),
         Call::Save { .. } | Call::Keep | Call::Clear { .. } => Some(1),
         Call::Step { .. } => Some(2),
         Call::Class { .. } | Call::Data | Call::Blank { .. } => None,
@@ -71,6 +74,7 @@ impl Tally {
         self.moves.count(call, why.number, lent.file);
         self.used.count(call, answer, lent);
         self.gaps.count(call, answer, lent);
+        self.finds.count(call, answer, old, lent);
     }
 
     /// All calls.
@@ -93,6 +97,7 @@ impl Tally {
             self.calls.iter_mut().chain(&mut self.refusals).chain(&mut self.reasons).chain(&mut self.confirmed);
         let counts = counts.chain(self.old.iter_mut().flatten()).chain(self.moves.numbers_mut());
         let counts = counts.chain(self.used.numbers_mut()).chain(self.gaps.numbers_mut());
+        let counts = counts.chain(self.finds.numbers_mut());
         counts.zip(numbers).for_each(|(count, number)| *count += number);
         true
     }
@@ -100,11 +105,11 @@ impl Tally {
     fn numbers(&self) -> impl Iterator<Item = u64> {
         let counts = self.calls.iter().chain(&self.refusals).chain(&self.reasons).chain(&self.confirmed);
         let counts = counts.chain(self.old.iter().flatten()).chain(self.moves.numbers());
-        counts.chain(self.used.numbers()).chain(self.gaps.numbers()).copied()
+        counts.chain(self.used.numbers()).chain(self.gaps.numbers()).chain(self.finds.numbers()).copied()
     }
 
     /// Refusals, reasons and confirmations that no case reached, of an old file what it can be answered with, and of
-    /// conversions, of U and of gaps all that is counted.
+    /// conversions, of U, of gaps and of searches all that is counted.
     pub fn unreached(&self) -> Vec<String> {
         let mut missing = Vec::new();
         let mut look = |name: &str, counts: &[u64], from: usize| {
@@ -126,6 +131,8 @@ impl Tally {
         let used = Used::names().zip(self.used.numbers()).filter(|(_, count)| **count == 0);
         let gaps = Gaps::names().zip(self.gaps.numbers()).filter(|(_, count)| **count == 0);
         missing.extend(used.chain(gaps).map(|(name, _)| name.to_string()));
+        missing
+            .extend(Finds::names().zip(self.finds.numbers()).filter(|(_, count)| **count == 0).map(|(name, _)| name));
         missing
     }
 }
@@ -164,6 +171,10 @@ impl fmt::Display for Tally {
         }
         writeln!(f, "old runs and gaps")?;
         for (name, count) in Gaps::names().zip(self.gaps.numbers()) {
+            writeln!(f, "  {count:>9}  {name}")?;
+        }
+        writeln!(f, "searches")?;
+        for (name, count) in Finds::names().zip(self.finds.numbers()) {
             writeln!(f, "  {count:>9}  {name}")?;
         }
         Ok(())

@@ -6,6 +6,7 @@ mod confirming;
 mod cuts;
 mod edges;
 mod files;
+mod find;
 mod forged;
 mod gaps;
 mod giant;
@@ -32,19 +33,20 @@ pub struct Theme {
 }
 
 /// The themes whose turn comes by chance.
-pub const THEMES: [Theme; 12] = [
-    Theme { name: "files", share: 15, round: files::round },
-    Theme { name: "edges", share: 10, round: edges::round },
-    Theme { name: "scans", share: 11, round: scans::round },
+pub const THEMES: [Theme; 13] = [
+    Theme { name: "files", share: 13, round: files::round },
+    Theme { name: "edges", share: 9, round: edges::round },
+    Theme { name: "scans", share: 9, round: scans::round },
     Theme { name: "blanks", share: 4, round: blanks::round },
-    Theme { name: "histories", share: 9, round: histories::round },
+    Theme { name: "histories", share: 8, round: histories::round },
     Theme { name: "cuts", share: 6, round: cuts::round },
     Theme { name: "forged", share: 7, round: forged::round },
     Theme { name: "confirming", share: 7, round: confirming::round },
-    Theme { name: "older", share: 7, round: older::round },
-    Theme { name: "moved", share: 8, round: moved::round },
-    Theme { name: "used", share: 8, round: used::round },
-    Theme { name: "gaps", share: 9, round: gaps::round },
+    Theme { name: "older", share: 6, round: older::round },
+    Theme { name: "moved", share: 7, round: moved::round },
+    Theme { name: "used", share: 7, round: used::round },
+    Theme { name: "gaps", share: 8, round: gaps::round },
+    Theme { name: "find", share: 9, round: find::round },
 ];
 
 /// Up to 4,096 slots; dear, so its turn comes by count.

@@ -27,8 +27,9 @@ fn what_no_case_reached_is_named() {
     let missing = Tally::default().unreached();
     // refusals with 0, rules, Saved and Cleared, calls; then an old file's looks, changes and steps; then the answers of
     // conversions, what they came upon, and the ways there and home; then what jobs did to U;
-    // then what became of old runs and of gaps
-    assert_eq!(missing.len(), 20 + 6 + 2 + 15 + 13 + 3 + 1 + 2 * 10 + 19 + 4 + 26 + 42);
+    // then what became of old runs and of gaps; then the answers of searches, in either form and with an empty row, and
+    // what they came upon
+    assert_eq!(missing.len(), 20 + 6 + 2 + 16 + 13 + 3 + 1 + 2 * 10 + 19 + 4 + 26 + 42 + 4 * 6 + 66);
     let named = [
         "refusal 19",
         "a look at an old file, 18",
@@ -46,6 +47,12 @@ fn what_no_case_reached_is_named() {
         "15 for the old run alone, in its last byte",
         "14 for an old run whose end wraps into the room",
         "no, of an old file",
+        "a search in an old file, 17",
+        "a search in a current file with an empty row, 5",
+        "found under an index refused with 6",
+        "found the listed runs, which slot order has otherwise",
+        "none, DATALEN past the data, the bytes are lent",
+        "17, one element too few",
     ];
     for name in named {
         assert!(missing.iter().any(|missing| missing == name), "{name} is not among {missing:?}");

@@ -3,7 +3,7 @@
 
 use crate::answers::{Answer, Begun, Entry, Job, Listed, Opened, Refusal, Span, Stepped};
 
-/// The fifteen calls of the header, in its order. A slice is a pointer and then
+/// The sixteen calls of the header, in its order. A slice is a pointer and then
 /// a length; `about` is a pointer to 54 bytes.
 #[allow(missing_docs)]
 #[derive(Clone, Copy)]
@@ -23,4 +23,5 @@ pub struct Calls {
     pub to_current: unsafe extern "C" fn(*const u8, usize, *mut u8, usize) -> Refusal,
     pub to_old: unsafe extern "C" fn(*const u8, usize, *mut u8, usize) -> Refusal,
     pub gaps_zero: unsafe extern "C" fn(*const u8, usize) -> Answer,
+    pub find: unsafe extern "C" fn(*const u8, usize, *mut u64, usize) -> Listed,
 }

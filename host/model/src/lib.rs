@@ -9,6 +9,7 @@
 
 mod bytes;
 mod convert;
+mod find;
 mod index;
 mod job;
 mod look;
@@ -18,6 +19,7 @@ mod sizes;
 
 pub use bytes::Write;
 pub use convert::{Hindrance, hindrances, to_current, to_old};
+pub use find::{Find, find, finds};
 pub use index::{Run, highest, listed, open};
 pub use job::{About, Done, Job, Stepped, blank, clear, keep, save, step};
 pub use look::{Entry, Kind, class, data, entry, gaps_zero, list, read, show};

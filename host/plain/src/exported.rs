@@ -1,6 +1,6 @@
 //! The calls with the C face: pointers to slices, answers to structs of numbers.
 
-use crate::calls::{convert, gaps, look, store};
+use crate::calls::{convert, find, gaps, look, store};
 use crate::ground::line::or;
 use crate::rules::boot::Answer;
 use face::{Answer as YesOrNo, Begun, Calls, Entry, Job, Listed, Opened, Refusal, Span, Stepped};
@@ -24,6 +24,7 @@ pub fn calls<const X: u32>() -> Calls {
         to_current: to_current::<X>,
         to_old: to_old::<X>,
         gaps_zero: gaps_zero::<X>,
+        find: find::<X>,
     }
 }
 
@@ -152,5 +153,12 @@ unsafe extern "C" fn gaps_zero<const X: u32>(file: *const u8, file_len: usize) -
     match gaps::gaps_zero::<X>(unsafe { lent(file, file_len) }) {
         Ok(yes) => YesOrNo { why: Refusal::NONE, yes: u64::from(yes) },
         Err(why) => YesOrNo { why, yes: or::<X, _>(270, 0, 1) },
+    }
+}
+
+unsafe extern "C" fn find<const X: u32>(file: *const u8, file_len: usize, out: *mut u64, out_len: usize) -> Listed {
+    match find::find::<X>(unsafe { lent(file, file_len) }, unsafe { lent_mut(out, out_len) }) {
+        Ok(scans) => Listed { why: Refusal::NONE, scans },
+        Err(why) => Listed { why, scans: or::<X, _>(295, 0, 1) },
     }
 }

@@ -1,5 +1,5 @@
 //! What each command does. `run` knows them all; they know the floors below, `demo` also those that it shows;
-//! `second` is what `convert` and `sweep` share.
+//! `second` is what `convert` and `sweep` share, `bytes` has what `find` writes its files with.
 
 mod about;
 mod blank;
@@ -12,6 +12,7 @@ mod convert;
 mod demo;
 mod each;
 mod entry;
+mod find;
 mod form;
 mod install;
 mod list;
@@ -35,6 +36,7 @@ pub fn run(verb: Verb, args: &Args, out: &Out) -> Result<(), Failure> {
         Verb::Convert => convert::run(args, out),
         Verb::Demo => demo::run(args, out),
         Verb::Entry => entry::run(args, out),
+        Verb::Find => find::run(args, out),
         Verb::Install => install::run(args, out),
         Verb::Keep => change::keep(args, out),
         Verb::List => list::run(args, out),

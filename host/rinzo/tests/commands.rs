@@ -341,7 +341,7 @@ fn help_groups_the_commands() {
     let help = wrote(&folder("help_groups"), &["--help"]);
     let groups: Vec<&str> = help.split("\n\n").collect();
     for (heading, commands) in [
-        ("look at a file:", &["list", "check", "entry", "classes", "show", "read"][..]),
+        ("look at a file:", &["list", "check", "entry", "classes", "show", "read", "find"][..]),
         ("change a file:", &["save", "keep", "clear"]),
         (
             "make a file, and what goes with the program:",

@@ -108,7 +108,7 @@ fn limited(folder: &Path, bytes: u64, group: Option<&Group>, words: &[&str]) -> 
 }
 
 #[test]
-fn a_file_larger_than_memory_is_opened_listed_saved_to_converted_and_swept() {
+fn a_file_larger_than_memory_is_opened_listed_saved_to_converted_swept_and_searched() {
     let folder = folder("larger_than_memory");
     let [_, large] = small_and_large(&folder);
     let allowed = 16 * MIB;
@@ -123,6 +123,7 @@ fn a_file_larger_than_memory_is_opened_listed_saved_to_converted_and_swept() {
         &["show", large, "9"],
         &["convert", large, "--to", "old", "--out", "old.sdd"],
         &["sweep", large, "swept.sdd"],
+        &["find", large, "--out", "scans"],
     ] {
         let cost = cost::of(&mut limited(&folder, allowed, group.as_ref(), words));
         assert!(cost.peak < allowed, "{words:?}: {cost:?}");
@@ -130,6 +131,7 @@ fn a_file_larger_than_memory_is_opened_listed_saved_to_converted_and_swept() {
     assert!(wrote(&folder, &["list", large]).ends_with("\n9 136 253\n"));
     assert!(wrote(&folder, &["list", "old.sdd"]).ends_with("\n9 136 253\n"));
     assert!(wrote(&folder, &["list", "swept.sdd"]).ends_with("\n9 136 253\n"));
+    assert_eq!(fs::read(folder.join("scans/136.scan")).unwrap(), sample::scan(60_000, 3));
     fs::remove_dir_all(&folder).unwrap();
 }
 
@@ -150,6 +152,40 @@ fn a_gap_larger_than_memory_is_looked_into() {
         let wanted = format!(",\"gaps-zero\":{zero},\"records-not-zero\":{},", records.len());
         assert!(wrote(&folder, &words).contains(&wanted));
     }
+    fs::remove_dir_all(&folder).unwrap();
+}
+
+/// All of a file of 488 MiB is looked through for scans, and memory hangs on those that are there.
+#[test]
+fn scans_are_found_in_a_file_larger_than_memory() {
+    let folder = folder("large_find");
+    wrote(&folder, &["blank", "f.sdd", "--n", "3", "--l", "512", "--room", "1000000"]);
+    let file = fs::OpenOptions::new().write(true).open(folder.join("f.sdd")).unwrap();
+    file.write_all_at(&999_997u32.to_be_bytes(), 4).unwrap();
+    // an index of junk
+    file.write_all_at(&[0x77; 1024], 512).unwrap();
+    let words = ["find", "f.sdd", "--json"];
+    for records in [&[][..], &[4, 500_000, 999_999]] {
+        for record in records {
+            file.write_all_at(&sample::scan(1_000, 1), (record - 1) * 512).unwrap();
+        }
+        let cost = cost::of(rinzo(&folder).args(words));
+        assert!(cost.peak <= 16 * MIB, "{cost:?}");
+        let found = wrote(&folder, &words);
+        assert!(found.contains(&format!(",\"to\":1000000,\"found\":{},", records.len())), "{found}");
+        assert!(records.iter().all(|first| found.contains(&format!("{{\"first\":{first},"))), "{found}");
+    }
+    fs::remove_dir_all(&folder).unwrap();
+}
+
+/// A page of memory for each of 4,096 scans, and not the file.
+#[test]
+fn many_scans_are_found_in_as_many_pages_of_memory() {
+    let folder = folder("many_finds");
+    full_file(&folder);
+    let cost = cost::of(rinzo(&folder).args(["find", "f.sdd"]));
+    assert!(cost.peak <= 4_096 * 4_096 + 16 * MIB, "{cost:?}");
+    assert!(wrote(&folder, &["find", "f.sdd"]).contains("\n4096 scans found in records 514 to 33281; "));
     fs::remove_dir_all(&folder).unwrap();
 }
 

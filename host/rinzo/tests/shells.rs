@@ -105,7 +105,7 @@ fn every_command_and_option_is_completed_and_in_the_man_page() {
     let manual = wrote(&folder, &["manual"]);
     let overview = wrote(&folder, &["--help"]);
     let commands: Vec<&str> = overview.lines().filter_map(|line| line.strip_prefix("  ")?.split(' ').next()).collect();
-    assert_eq!(commands.len(), 16, "{commands:?}");
+    assert_eq!(commands.len(), 17, "{commands:?}");
     for command in commands {
         assert!(texts.iter().all(|text| text.contains(command)), "{command}");
         assert!(manual.contains(&format!(".SS \\fB{command}\\fR")), "{command}");

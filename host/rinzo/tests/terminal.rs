@@ -80,6 +80,8 @@ fn progress_is_shown_on_a_terminal_and_wiped_away() {
         (&["sweep", "gap.sdd", "4"], "sweeping: 1.0 MB"),
         (&["sweep", "gap.sdd", "5"], "looking into records of no scan: 1.0 MB"),
         (&["sweep", "f.sdd", "6"], "comparing slot 1 of 1024"),
+        (&["find", "gap.sdd"], "looking for scans: 1.0 MB"),
+        (&["find", "f.sdd", "--out", "7"], "writing scan 1 of 1024"),
     ] {
         let said = said_on_terminal(&folder, words);
         assert!(said.contains(part), "{words:?}: {said:?}");
@@ -112,6 +114,8 @@ fn nothing_is_shown_in_a_pipe() {
         &["check", "gap.sdd"],
         &["list", "f.sdd", "--long"],
         &["show", "long.sdd", "1"],
+        &["find", "gap.sdd"],
+        &["find", "f.sdd", "--out", "3"],
         &convert,
         &sweep,
     ] {

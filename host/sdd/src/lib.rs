@@ -7,10 +7,11 @@
 //! A file is a slice of bytes, perhaps longer than what is in use. The calls
 //! that look at it are [`open`], [`list`], [`entry`], [`show`] and [`read`];
 //! [`class`], [`classes`] and [`data`] take a scan apart; [`gaps_zero`] asks
-//! whether anything is left in the records of no scan. [`blank`] makes an
-//! empty file. Files of the old form, from before 1993, are looked at like any
-//! other ([`Form`] says which it is), and not changed; [`to_current`] and
-//! [`to_old`] write bootstrap and index in the other form, into other memory.
+//! whether anything is left in the records of no scan; [`find`] looks for
+//! scans where the index is lost. [`blank`] makes an empty file. Files of the
+//! old form, from before 1993, are looked at like any other ([`Form`] says
+//! which it is), and not changed; [`to_current`] and [`to_old`] write bootstrap
+//! and index in the other form, into other memory.
 //!
 //! # To save a scan
 //! [`drive`] runs a job on a [`Device`]: it writes each record durably, reads
@@ -76,6 +77,7 @@ mod convert;
 mod device;
 pub mod drive;
 mod entry;
+mod find;
 mod head;
 mod job;
 mod linked;
@@ -90,6 +92,7 @@ pub use about::{About, NameTooLong};
 pub use convert::{to_current, to_old};
 pub use device::Device;
 pub use entry::{Entry, Kind};
+pub use find::{Find, find};
 pub use head::Head;
 pub use job::{Job, Step, blank, clear, keep, save, step};
 pub use look::{Listed, Span, class, classes, data, entry, gaps_zero, list, open, read, show};

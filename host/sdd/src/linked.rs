@@ -32,6 +32,7 @@ mod chosen {
         fn sdd_to_current(file: *const u8, file_len: usize, out: *mut u8, out_len: usize) -> Refusal;
         fn sdd_to_old(file: *const u8, file_len: usize, out: *mut u8, out_len: usize) -> Refusal;
         fn sdd_gaps_zero(file: *const u8, file_len: usize) -> Answer;
+        fn sdd_find(file: *const u8, file_len: usize, out: *mut u64, out_len: usize) -> Listed;
     }
 
     pub fn calls() -> Calls {
@@ -51,6 +52,7 @@ mod chosen {
             to_current: sdd_to_current,
             to_old: sdd_to_old,
             gaps_zero: sdd_gaps_zero,
+            find: sdd_find,
         }
     }
 }

@@ -21,7 +21,7 @@ const REFUSALS: [&str; 19] = [
     "the job and the file disagree, something else changed the file or the scan: list the file, then begin the job again",
     "what was read back is not what was written: the scan is not confirmed, check the device and save it again to the same slot",
     "these sizes make no file: N is 2 to 513, L 512 to 4,096, M 64 to L and a divisor of L, with at most 4,096 slots, and N records must fit",
-    "the answer does not fit into what was lent for it: lend three numbers for each scan of a list, N records for a conversion",
+    "the answer does not fit into what was lent for it: lend three numbers for each scan of a list or a search, N records for a conversion",
     "the old file says that this scan is not of SDD version 1, so it is not read: show its records as they stand, or have the station convert it",
     "the file cannot be converted, it has the wanted form already, holds individual records, has a scan that is not of SDD version 1, or has a number too large for the old form: list and check it to see which of these it is, and work on the file as it is",
 ];

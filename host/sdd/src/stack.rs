@@ -44,10 +44,12 @@ pub const TO_CURRENT: usize = MOST;
 pub const TO_OLD: usize = MOST;
 /// [`gaps_zero`](crate::gaps_zero).
 pub const GAPS_ZERO: usize = MOST;
+/// [`find`](crate::find).
+pub const FIND: usize = 1 << 10;
 
 /// All of them, by the names that they have in the header after `sdd_`.
 #[doc(hidden)]
-pub const ALL: [(&str, usize); 15] = [
+pub const ALL: [(&str, usize); 16] = [
     ("open", OPEN),
     ("list", LIST),
     ("entry_at", ENTRY_AT),
@@ -63,4 +65,5 @@ pub const ALL: [(&str, usize); 15] = [
     ("to_current", TO_CURRENT),
     ("to_old", TO_OLD),
     ("gaps_zero", GAPS_ZERO),
+    ("find", FIND),
 ];

@@ -34,4 +34,5 @@ exported! {
     sdd_to_current is to_current(file: *const u8, file_len: usize, out: *mut u8, out_len: usize) -> Refusal;
     sdd_to_old is to_old(file: *const u8, file_len: usize, out: *mut u8, out_len: usize) -> Refusal;
     sdd_gaps_zero is gaps_zero(file: *const u8, file_len: usize) -> Answer;
+    sdd_find is find(file: *const u8, file_len: usize, out: *mut u64, out_len: usize) -> Listed;
 }

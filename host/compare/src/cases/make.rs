@@ -225,8 +225,23 @@ pub fn scan(rng: &mut Rng, most: usize) -> Vec<u8> {
     let starts = starts(rng, classes, (most / 8).min(8_192));
     let head = length(rng, 8 * starts[starts.len() - 1], most.min(65_536) / 8 * 8, 8);
     let data = length(rng, 0, (most - head).min(65_536) / 4 * 4, 4);
+    scan_of_lengths(rng, &starts, head, data)
+}
+
+/// One of exactly so many bytes: a multiple of 4 from 272 to 131,072.
+pub fn scan_of(rng: &mut Rng, len: usize) -> Vec<u8> {
+    let len = len as u64;
+    let classes = rng.between(13, 15);
+    let starts = starts(rng, classes, (len / 8).min(8_192));
+    // what HEADLEN leaves is DATALEN, which is 65,536 at most too
+    let least = (8 * starts[starts.len() - 1]).max(len.saturating_sub(65_536).next_multiple_of(8));
+    let head = length(rng, least, len.min(65_536) / 8 * 8, 8);
+    scan_of_lengths(rng, &starts, head, len - head)
+}
+
+fn scan_of_lengths(rng: &mut Rng, starts: &[u64], head: u64, data: u64) -> Vec<u8> {
     let mut scan = rng.bytes((head + data) as usize);
-    put_preamble(&mut scan, &starts);
+    put_preamble(&mut scan, starts);
     put_lengths(&mut scan, head as f64, data as f64);
     scan
 }

@@ -1,7 +1,7 @@
 //! Sizes at the very edge of their ranges, with all else as it should be.
 
 use super::files;
-use super::shared::moves;
+use super::shared::{moves, searches};
 use crate::call::Call;
 use crate::cases::make;
 use crate::cases::shape::{Form, Shape};
@@ -101,6 +101,7 @@ fn one_run(rng: &mut Rng, file: &mut [u8], shape: &Shape, d: u64) {
 pub fn ask(world: &mut World, shape: &Shape) -> Round {
     world.call(Call::Open)?;
     files::list(world, shape)?;
+    searches::one(world)?;
     for slot in [0, 1, shape.capacity(), shape.capacity() + 1] {
         world.call(Call::Entry { slot })?;
     }

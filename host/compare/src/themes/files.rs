@@ -1,6 +1,6 @@
 //! Files, right and damaged, asked everything.
 
-use super::shared::{jobs, moves, slots};
+use super::shared::{jobs, moves, searches, slots};
 use crate::call::Call;
 use crate::cases::shape::Shape;
 use crate::cases::{damage, make};
@@ -22,6 +22,7 @@ pub fn ask_everything(world: &mut World, shape: &Shape) -> Round {
     world.call(Call::Open)?;
     world.call(Call::GapsZero)?;
     list(world, shape)?;
+    searches::one(world)?;
     for _ in 0..3 {
         let slot = slots::any(world, shape);
         world.call(Call::Entry { slot })?;

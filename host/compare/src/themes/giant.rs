@@ -1,7 +1,7 @@
 //! A file with room for more than 1,000,000 records: memory that is there only where it is touched.
 
 use super::files;
-use super::shared::jobs;
+use super::shared::{jobs, searches};
 use crate::call::Call;
 use crate::cases::make;
 use crate::cases::shape::{Form, Shape, put32};
@@ -32,6 +32,7 @@ pub fn round(world: &mut World) -> Round {
     world.call(Call::Show { slot: 1 })?;
     world.call(Call::Read { slot: 2 })?;
     files::list(world, &shape)?;
+    found_at_the_end(world, &shape)?;
     one_more(world, &shape)?;
     world.whole_file()
 }
@@ -66,11 +67,30 @@ fn old_runs(world: &mut World) -> Round {
     Ok(())
 }
 
+/// A scan that ends with the last record that a file can have, and one that would end past it, though the bytes are there.
+fn found_at_the_end(world: &mut World, shape: &Shape) -> Round {
+    put_end(world, shape, MOST);
+    // nothing begins before it that goes on into it
+    world.patch(((MOST - 6) * shape.l) as usize, &vec![0; 6 * shape.l as usize]);
+    for len in [1_024, 1_028] {
+        let scan = make::scan_of(&mut world.rng, len);
+        world.patch(((MOST - 2) * shape.l) as usize, &scan);
+        searches::one(world)?;
+        world.call(Call::Find { out_len: 9 })?;
+    }
+    Ok(())
+}
+
 /// N+D one above what it may be, though the bytes are there.
 fn one_more(world: &mut World, shape: &Shape) -> Round {
-    let mut d = [0; 4];
-    put32(&mut d, 0, MOST + 1 - shape.n);
-    world.patch(4, &d);
+    put_end(world, shape, MOST + 1);
     world.call(Call::Open)?;
-    Ok(())
+    searches::one(world)
+}
+
+/// Lets the data section end with this record.
+fn put_end(world: &mut World, shape: &Shape, last: u64) {
+    let mut d = [0; 4];
+    put32(&mut d, 0, last - shape.n);
+    world.patch(4, &d);
 }

@@ -1,6 +1,6 @@
 //! Whole histories of saves, keeps and clears, each cut off anywhere.
 
-use super::shared::{jobs, slots};
+use super::shared::{jobs, searches, slots};
 use crate::call::Call;
 use crate::cases::make;
 use crate::cases::shape::Shape;
@@ -59,6 +59,7 @@ fn some_steps(world: &mut World, mut job: Job) -> Round {
 pub fn look(world: &mut World, shape: &Shape) -> Round {
     world.call(Call::Open)?;
     world.call(Call::GapsZero)?;
+    searches::one(world)?;
     world.call(Call::List { out_len: 3 * shape.capacity() as usize })?;
     for _ in 0..2 {
         let slot = slots::any(world, shape);

@@ -1,5 +1,6 @@
 //! Files moved to the other form and home again, and the causes for which they are not. Beside the comparison this holds
-//! the answers to what the request promises: the same list, entries and scans, and the same bytes where they can be.
+//! the answers to what the request promises: the same list, entries and scans, and the same bytes where they can be. A
+//! search finds the same too.
 
 use super::shared::{moves, slots};
 use crate::call::{Answer, Call};
@@ -91,13 +92,16 @@ fn filled(file: &[u8], shape: &Shape) -> Vec<u64> {
     (1..=shape.capacity()).filter(|slot| shape.run(file, *slot) != (0, 0)).collect()
 }
 
-/// What a file shows but for its form: sizes, list, and for each slot its entry, its records and its scan.
+/// What a file shows but for its form: sizes, list, what a search finds, and for each slot its entry, its records and its scan.
 fn shown(world: &mut World, slots: &[u64]) -> Round<Vec<Vec<u8>>> {
     let mut all = Vec::new();
     let Answer::Opened(opened) = world.call(Call::Open)? else { unreachable!("open answers sizes") };
     all.push(Answer::Opened(Opened { version: 0, ..opened }).bytes());
     world.call(Call::List { out_len: 3 * opened.capacity as usize })?;
     all.push(model::list(&world.file, usize::MAX).map_or(Vec::new(), |list| format!("{list:?}").into_bytes()));
+    let found = model::find(&world.file, usize::MAX).unwrap_or_default();
+    world.call(Call::Find { out_len: found.len() })?;
+    all.push(format!("{found:?}").into_bytes());
     for slot in slots {
         let Answer::Entry(entry) = world.call(Call::Entry { slot: *slot })? else { unreachable!("an entry") };
         all.push(Answer::Entry(Entry { magic: 0, ..entry }).bytes());

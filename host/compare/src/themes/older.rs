@@ -1,6 +1,6 @@
 //! Old files: every slot is looked at, every change and every step is refused.
 
-use super::shared::{jobs, slots};
+use super::shared::{jobs, searches, slots};
 use super::{edges, files};
 use crate::call::Call;
 use crate::cases::shape::{Form, Shape, put32};
@@ -22,6 +22,7 @@ pub fn round(world: &mut World) -> Round {
 fn look(world: &mut World, shape: &Shape) -> Round {
     world.call(Call::Open)?;
     files::list(world, shape)?;
+    searches::one(world)?;
     for slot in (1..=shape.capacity().min(12)).chain([0, shape.capacity() + 1]) {
         world.call(Call::Entry { slot })?;
         world.call(Call::Show { slot })?;

@@ -1,6 +1,6 @@
 //! Old files whose records go on past 32,767, the last one that an old entry can name.
 
-use super::shared::moves;
+use super::shared::{moves, searches};
 use super::{files, older};
 use crate::call::Call;
 use crate::cases::make;
@@ -23,9 +23,18 @@ pub fn round(world: &mut World) -> Round {
         put_runs(world, &shape);
         ask(world, &shape)?;
     }
+    found_at_the_end(world, &shape, d)?;
     older::changes(world, &shape)?;
     older::steps(world, &shape)?;
     world.whole_file()
+}
+
+/// A scan in the last data record, which no entry can name where it is past 32,767.
+fn found_at_the_end(world: &mut World, shape: &Shape, d: u64) -> Round {
+    let scan = make::scan(&mut world.rng, 500);
+    world.patch(((shape.n + d - 1) * shape.l) as usize, &scan);
+    world.call(Call::Find { out_len: 3 * 5 })?;
+    searches::one(world)
 }
 
 fn put_boot(world: &mut World, shape: &Shape, d: u64) {
@@ -70,6 +79,7 @@ fn ask(world: &mut World, shape: &Shape) -> Round {
     world.patch(((record - 1) * shape.l) as usize, &scan);
     world.call(Call::Open)?;
     files::list(world, shape)?;
+    searches::one(world)?;
     moves::ask(world, shape)?;
     for slot in [1, 2, 3, shape.capacity()] {
         world.call(Call::Entry { slot })?;

@@ -1,5 +1,7 @@
-//! What the themes share: slots to ask about, jobs and conversions. From the ground up: `slots`, `jobs`; `moves`.
+//! What the themes share: slots to ask about, jobs, conversions and searches. From the ground up: `slots`, `jobs`; `moves`;
+//! `searches`.
 
 pub mod jobs;
 pub mod moves;
+pub mod searches;
 pub mod slots;

@@ -56,7 +56,7 @@ fn write_out(args: &Args, out: &Out, part: fn(&mut Lent, u64) -> Result<Span, Fa
 
 /// Writes a new file; one that is there only by force, and never the SDD file itself.
 fn write_file(device: &Device, to: &Path, force: bool, part: &Span, out: &Out) -> Result<(), Failure> {
-    let mut made = match OpenOptions::new().write(true).create_new(true).open(to) {
+    let made = match OpenOptions::new().write(true).create_new(true).open(to) {
         Ok(made) => made,
         Err(error) if error.kind() == ErrorKind::AlreadyExists && force => overwrite(device, to)?,
         Err(error) if error.kind() == ErrorKind::AlreadyExists => {
@@ -67,6 +67,11 @@ fn write_file(device: &Device, to: &Path, force: bool, part: &Span, out: &Out) -
         }
         Err(error) => return Err(Failure::of(to, &error)),
     };
+    fill(made, to, device, part, out)
+}
+
+/// Fills a file that was made with a part of the SDD file; one that is not whole does not stay.
+pub fn fill(mut made: File, to: &Path, device: &Device, part: &Span, out: &Out) -> Result<(), Failure> {
     let failed = |error| {
         Failure::Io(format!("{}: it could not be written, and nothing of it is left: {error}", shown::name(to)))
     };

@@ -1,13 +1,11 @@
 //! The gaps of a file: its data records, N+1 to N+D, that belong to no listed scan. After jobs that ran to their ends they
 //! are zeros. After a cut, or in a file from before that was so, they may still hold what a scan had.
 
+use super::records::{each_record, part};
 use super::window::{Read, Window};
 use sdd::{Listed, Refusal, Sizes, Span};
 use std::io;
 use std::ops::Range;
-
-/// How much is read at a time, at most.
-const PIECE: usize = 256 << 10;
 
 /// What the gaps hold.
 pub struct Gaps {
@@ -35,11 +33,6 @@ pub fn free_runs(scans: &[Listed], n: u64, last: u64) -> Vec<Range<u64>> {
 pub fn parts(sizes: &Sizes, scans: &[Listed]) -> Vec<Span> {
     let free = free_runs(scans, sizes.n, sizes.n + sizes.d).into_iter();
     free.map(|run| part(run, sizes.l)).collect()
-}
-
-/// The bytes of a run of records, which is given by its first and the one after its last.
-pub fn part(run: Range<u64>, l: u64) -> Span {
-    ((run.start - 1) * l) as usize..((run.end - 1) * l) as usize
 }
 
 /// Whether bytes are all zeros.
@@ -74,17 +67,7 @@ pub fn each_not_zero(
     read: Read,
     mut hand_on: impl FnMut(usize, &[u8]) -> io::Result<()>,
 ) -> io::Result<()> {
-    let most = PIECE / l * l;
-    let mut piece = vec![0; most.min(part.len())];
-    let mut at = part.start;
-    while at < part.end {
-        let piece = &mut piece[..most.min(part.end - at)];
-        read(at as u64, piece)?;
-        let records = (at..).step_by(l).zip(piece.chunks_exact(l));
-        records.filter(|(_, record)| !is_zeros(record)).try_for_each(|(at, record)| hand_on(at, record))?;
-        at += piece.len();
-    }
-    Ok(())
+    each_record(part, l, read, |at, record| if is_zeros(record) { Ok(()) } else { hand_on(at, record) })
 }
 
 #[cfg(test)]

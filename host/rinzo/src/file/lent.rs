@@ -1,6 +1,7 @@
 //! A file as it is lent to the library: a device, and the window on it.
 
 use super::device::{Device, Way};
+use super::finds;
 use super::gaps::{self, Gaps};
 use super::open;
 use super::window::Window;
@@ -9,7 +10,7 @@ use crate::say::out::Out;
 use crate::say::progress::Progress;
 use crate::say::refused::Refused;
 use crate::say::shown;
-use sdd::{Entry, Listed, Refusal, Sizes, Span};
+use sdd::{Entry, Find, Listed, Refusal, Sizes, Span};
 use std::io;
 use std::path::Path;
 
@@ -28,6 +29,14 @@ impl Lent {
     /// A file for a job, which has it alone as long as this lives.
     pub fn to_change(path: &Path) -> Result<Lent, Failure> {
         Lent::on(open::to_change(path)?)
+    }
+
+    /// A file that is looked at without its index, which reads as zeros.
+    pub fn without_index(path: &Path, out: &Out) -> Result<Lent, Failure> {
+        let device = open::to_read(path, out)?;
+        let window = device.len().and_then(|len| Window::without_index(len, &mut |at, into| device.read(at, into)));
+        let window = window.map_err(|error| cannot_be_read(&device, &error))?;
+        Ok(Lent { device, window })
     }
 
     fn on(device: Device) -> Result<Lent, Failure> {
@@ -70,6 +79,17 @@ impl Lent {
     pub fn gaps(&mut self, out: &Out) -> Result<Gaps, Failure> {
         let (device, mut progress) = (&self.device, Progress::of_bytes(out, "looking into records of no scan"));
         let looked = gaps::look(&mut self.window, &mut |at, into| {
+            progress.went_on(into.len() as u64);
+            device.read(at, into)
+        });
+        let found = looked.map_err(|error| cannot_be_read(device, &error))?;
+        found.map_err(|why| self.refused(why, None))
+    }
+
+    /// The scans that its data records show: all of them are read.
+    pub fn finds(&mut self, out: &Out) -> Result<Vec<Find>, Failure> {
+        let (device, mut progress) = (&self.device, Progress::of_bytes(out, "looking for scans"));
+        let looked = finds::look(&mut self.window, &mut |at, into| {
             progress.went_on(into.len() as u64);
             device.read(at, into)
         });

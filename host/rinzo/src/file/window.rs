@@ -3,7 +3,8 @@
 //! The library is lent all of it and looks at little: at records 1 to N, and at the records of the
 //! scan that it is asked about. So its answer on a window that has those is its answer on the file.
 //! That is the frame law (`crates/paper/proofs/Frame.antt`) of the definitions, and the test with
-//! closed pages (`host/bench/src/closed.rs`) of the compiled calls.
+//! closed pages (`host/bench/src/closed.rs`) of the compiled calls. A search for scans whose index is
+//! lost looks at data records and at no index: `finds` has a window of its own kind.
 //!
 //! The memory is an anonymous mapping. No page of it exists until it is written, and only pages that
 //! are read in, or that a job is to write, are opened for writing: the system counts those alone.
@@ -37,15 +38,30 @@ pub struct Window {
 impl Window {
     /// A window on so many bytes, with records 1 to N read in.
     pub fn new(len: u64, read: Read) -> io::Result<Window> {
+        let mut window = Window::of_zeros(len)?;
+        window.read_head(read)?;
+        Ok(window)
+    }
+
+    /// A window on so many bytes, with the words of the bootstrap read in and nothing else. Its index is zeros, whatever the
+    /// file's is: so it opens where the bootstrap alone is right, and says what that says.
+    pub fn without_index(len: u64, read: Read) -> io::Result<Window> {
+        let mut window = Window::of_zeros(len)?;
+        window.head = window.len.min(Head::WORDS);
+        window.fill(0..window.head, read)?;
+        window.record_len = Head::of(window.bytes()).map_or(0, |head| head.l);
+        Ok(window)
+    }
+
+    /// A window on so many bytes of which none is read in.
+    fn of_zeros(len: u64) -> io::Result<Window> {
         let len = usize::try_from(len).map_err(io::Error::other)?;
         let zeros = File::open("/dev/zero")?;
         // SAFETY: a private mapping of zeros, which no other program can change or cut short.
         let mapped = unsafe { MmapOptions::new().len(len.max(1)).map_copy_read_only(&zeros)? };
         // SAFETY: sysconf only answers.
         let page = unsafe { libc::sysconf(libc::_SC_PAGESIZE) as usize };
-        let mut window = Window { mapped, len, page, head: 0, record_len: 0 };
-        window.read_head(read)?;
-        Ok(window)
+        Ok(Window { mapped, len, page, head: 0, record_len: 0 })
     }
 
     /// Reads records 1 to N. Where the bootstrap has no right N and L the library refuses the file for it, and looks
@@ -134,7 +150,7 @@ impl Window {
     }
 
     /// Opens a part for writing.
-    fn open(&mut self, part: &Span) -> io::Result<()> {
+    pub fn open(&mut self, part: &Span) -> io::Result<()> {
         let (from, to) = (part.start / self.page * self.page, part.end.min(self.len));
         if from >= to {
             return Ok(());

@@ -89,6 +89,11 @@ impl fmt::Display for Refused {
             (Refusal::EmptySlot | Refusal::BadScan(_) | Refusal::NotVersionOne, Some(slot)) => {
                 write!(f, "refused {number}: {file}: slot {slot}: {}", self.why.sentence())
             }
+            (Refusal::BadEntry(slot) | Refusal::EntryAboveUsed(slot) | Refusal::SharedRecord(slot), _) => write!(
+                f,
+                "refused {number} slot {slot}: {file}: {}; without one, `rinzo find {file}` looks for the scans without the index",
+                self.why.sentence()
+            ),
             (_, Some(slot)) => write!(f, "refused {number} slot {slot}: {file}: {}", self.why.sentence()),
             (_, None) => write!(f, "refused {number}: {file}: {}", self.why.sentence()),
         }

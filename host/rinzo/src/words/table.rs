@@ -34,6 +34,7 @@ pub enum Verb {
     Convert,
     Demo,
     Entry,
+    Find,
     Install,
     Keep,
     List,
@@ -160,13 +161,31 @@ const LEFT_DETAILS: &str =
     "What was left there is of a scan that was replaced or cleared, or of a save that was cut; no later job zeroes
 it, and `rinzo check` says whether there is any. Files of both forms are swept.";
 
+/// What `find` needs, and what it does not look at.
+const FIND_DETAILS: &str =
+    "For a file whose index is lost: it needs a good record 1, and reads no index. A scan is found by its own bytes, where
+they obey the rules; printed are its first and last record, its length and its number. FILE, of either form, stays as it is.";
+
+/// Why `find` may show more, or less, than the list did.
+const MORE_DETAILS: &str =
+    "More may be found than the list showed: a scan that was replaced, cleared or cut off, and whose bytes are left in
+records of no scan. Two with one number may be an old and a new one. A scan whose beginning is damaged is not found.
+A file that opens is better read with `rinzo list`.";
+
+/// How a scan that was found gets into a slot.
+const FOUND_DETAILS: &str =
+    "To have the scans in a file again: `rinzo find FILE --out DIR`, `rinzo blank NEW`, and for each that you want
+`rinzo keep NEW DIR/FIRST.scan`. Source, mode and all else that the index said are lost with it: give them to keep.";
+
+const FIND: [Opt; 1] = [opt("out", "DIR", "write each scan to a new file DIR/FIRST.scan; a file that is there stays")];
+
 /// Of what cannot be converted.
 const NOT_CONVERTED_DETAILS: &str =
     "Refused with 19: a file that has the form already, that holds individual records, that has a scan which is
 not SDD version 1, or a number too large for the old form. The sentence says which it is.";
 
 /// All commands, in the order of the overview.
-pub static COMMANDS: [Command; 16] = [
+pub static COMMANDS: [Command; 17] = [
     Command {
         name: "list",
         verb: Verb::List,
@@ -224,6 +243,15 @@ pub static COMMANDS: [Command; 16] = [
         summary: "write out a slot's scan",
         details: &[READ_DETAILS],
         options: &[&BYTES],
+    },
+    Command {
+        name: "find",
+        verb: Verb::Find,
+        group: Group::Look,
+        words: &["FILE"],
+        summary: "find scans in the data records, where the index is lost",
+        details: &[FIND_DETAILS, MORE_DETAILS, FOUND_DETAILS],
+        options: &[&FIND],
     },
     Command {
         name: "save",
