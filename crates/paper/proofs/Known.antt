@@ -443,6 +443,8 @@ finds =
       word = refl;
       one-record = refl;
       two-records = refl;
+      next-record = refl;
+      last-record = refl;
       to-the-end = refl;
       past-the-end = refl;
       junk = refl;
@@ -454,6 +456,7 @@ finds =
       range = refl;
       cut = refl;
       no-data = refl;
+      one-data-record = refl;
     }
 
 pub zeroed : Zeros

@@ -627,6 +627,9 @@ pub record Finds : Type 0 where
   -- DATALEN 208, 304 + 208 being 512, and 256: "go on after the last"
   pub one-record : reportOut (first-with 40 (double 64 106 0)) (replicate 6 9) ≡ 3 ∷ 3 ∷ 0 ∷ 4 ∷ 4 ∷ 0 ∷ []
   pub two-records : reportOut (first-with 40 (double 64 112 0)) (replicate 6 9) ≡ 3 ∷ 4 ∷ 0 ∷ 9 ∷ 9 ∷ 9 ∷ []
+  -- "where not, go to the next record": 12 classes in the first; and a scan in the last data record
+  pub next-record : reportOut (first-with 1 (12 ∷ [])) (replicate 6 9) ≡ 4 ∷ 4 ∷ 0 ∷ 9 ∷ 9 ∷ 9 ∷ []
+  pub last-record : reportOut (write file 2048 scan13) (replicate 9 9) ≡ 3 ∷ 3 ∷ 0 ∷ 4 ∷ 4 ∷ 0 ∷ 5 ∷ 5 ∷ 0 ∷ []
   -- "the run to the end of the data section": DATALEN 728, 296 + 728 being 1,024, and 732, with a record more lent
   pub to-the-end : reportOut (second-with 40 (double 64 134 192)) (replicate 6 9) ≡ 3 ∷ 3 ∷ 0 ∷ 4 ∷ 5 ∷ 0 ∷ []
   pub past-the-end : reportOut (second-with 40 (double 64 134 224) ++ replicate 512 0) (replicate 6 9) ≡ 3 ∷ 3 ∷ 0 ∷ 9 ∷ 9 ∷ 9 ∷ []
@@ -641,7 +644,9 @@ pub record Finds : Type 0 where
   pub version-2 : reportOf (write file 31 (2 ∷ [])) [] ≡ listed.Refused UnknownForm
   pub range : reportOf (write file 3 (1 ∷ [])) [] ≡ listed.Refused OutOfRange
   pub cut : reportOf (take 2559 file) [] ≡ listed.Refused PastEnd
+  -- D is 0, and 1
   pub no-data : reportOf (write file 7 (0 ∷ [])) [] ≡ listed.Scans 0
+  pub one-data-record : reportOut (write file 7 (1 ∷ [])) (replicate 6 9) ≡ 3 ∷ 3 ∷ 0 ∷ 9 ∷ 9 ∷ 9 ∷ []
 
 -- ---- zeros
 
