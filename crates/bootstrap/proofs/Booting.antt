@@ -12,9 +12,10 @@ use Rattle.lent.specs.Number.{be16, be32, widened}
 use Rattle.lent.proofs.Lists.{not-so, true≢false}
 use Rattle.paper.specs.declared.sizes.Sizes.{Sizes}
 use Rattle.paper.specs.declared.refusal.Refusal.the-variants.{TooShort, UnknownForm, OutOfRange, PastEnd}
+use Rattle.paper.specs.declared.answer.Opened.{Opened}
 use Rattle.paper.specs.declared.answer.Opened.the-variants.{Opens, Refused}
 use Rattle.paper.specs.Sizes.{byForm, wordAt, counterOf, typeOf, sizesOf, versionOf, bytesOf, shaped, inRange, Shaped, Ranged}
-use Rattle.paper.specs.Index.{bootOf}
+use Rattle.paper.specs.Index.{bootOf, sizedOf}
 use Rattle.paper.proofs.Forms.{by-old, by-current}
 use Rattle.paper.proofs.Opening.{shaped-facts, facts-shaped, range-facts, facts-range}
 
@@ -69,33 +70,32 @@ range-kept z e h = range-facts z (sym e ∙ not-false _ h)
 pub index-bytes : (z : Sizes) → z .n ≤ 513 → z .l ≤ 4096 → (z .n - 1) * z .l ≤ 2097152
 index-bytes z a b = let p : (z .n - 1) * z .l ≤ 512 * 4096 = mul-le-mul {n₁ = z .n - 1} {n₂ = 512} (omega arith) b in p
 
+module _ (len : ℕ) (z : Sizes) where
+  pub sized-unknown : 1 < z .version → Refused UnknownForm ≡ sizedOf len z
+  unfolding sizedOf
+  sized-unknown a = simp (lt-ltb _ _ a)
+
+  module _ (known : z .version ≤ 1) where
+    pub sized-range : {b : Bool} → b ≡ inRange z → not b ≡ true → Refused OutOfRange ≡ sizedOf len z
+    unfolding sizedOf
+    sized-range e h = simp (le-ltb _ _ known, ← e, h)
+
+    pub sized-past : Ranged z → len < bytesOf z → Refused PastEnd ≡ sizedOf len z
+    unfolding sizedOf
+    sized-past c d = simp (le-ltb _ _ known, facts-range z c, lt-ltb _ _ d)
+
+    pub sized-opens : Ranged z → bytesOf z ≤ len → Opens z ≡ sizedOf len z
+    unfolding sizedOf
+    sized-opens c d = simp (le-ltb _ _ known, facts-range z c, le-ltb _ _ d)
+
 module _ (f : List ℕ) where
   pub boot-short : length f < 512 → Refused TooShort ≡ bootOf f
   unfolding bootOf
   boot-short a = simp (lt-ltb _ _ a)
 
-  module _ (long : 512 ≤ length f) where
-    module _ (z : Sizes) (s : z ≡ sizesOf f) where
-      pub boot-unknown : 1 < z .version → Refused UnknownForm ≡ bootOf f
-      unfolding bootOf
-      boot-unknown b = let k = lt-ltb _ _ (subst (λ (y : Sizes). 1 < y .version) s b) in simp (le-ltb _ _ long, k)
+  judged : 512 ≤ length f → sizedOf (length f) (sizesOf f) ≡ bootOf f
+  unfolding bootOf sizedOf
+  judged a = simp (le-ltb _ _ a)
 
-    module _ (z : Sizes) (s : z ≡ sizesOf f) (known : z .version ≤ 1) where
-      form : ltb 1 (versionOf f) ≡ false
-      form = le-ltb _ _ (subst (λ (y : Sizes). y .version ≤ 1) s known)
-
-      pub boot-range : {b : Bool} → b ≡ inRange z → not b ≡ true → Refused OutOfRange ≡ bootOf f
-      unfolding bootOf
-      boot-range e h = simp (le-ltb _ _ long, form, ← s, ← e, h)
-
-      pub boot-past : Ranged z → length f < bytesOf z → Refused PastEnd ≡ bootOf f
-      unfolding bootOf
-      boot-past c d =
-          let k = lt-ltb _ _ (subst (λ (y : Sizes). length f < bytesOf y) s d) in
-          simp (le-ltb _ _ long, form, ← s, facts-range z c, k)
-
-      pub boot-opens : Ranged z → bytesOf z ≤ length f → Opens z ≡ bootOf f
-      unfolding bootOf
-      boot-opens c d =
-          let k = le-ltb _ _ (subst (λ (y : Sizes). bytesOf y ≤ length f) s d) in
-          simp (le-ltb _ _ long, form, ← s, facts-range z c, k)
+  pub boot-sized : 512 ≤ length f → {z : Sizes} {r : Opened} → z ≡ sizesOf f → r ≡ sizedOf (length f) z → r ≡ bootOf f
+  boot-sized a e h = h ∙ ap (sizedOf (length f)) e ∙ judged a

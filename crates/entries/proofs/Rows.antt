@@ -16,9 +16,9 @@ use Rattle.lent.proofs.Numbers.{number-join}
 use Rattle.paper.specs.declared.sizes.Sizes.{Sizes}
 use Rattle.paper.specs.declared.sizes.Run.{Run}
 use Rattle.paper.specs.Sizes.{wordAt, homeOf}
-use Rattle.paper.specs.Index.{runOf, shares, sharer, badAt, sharedAt, Booted}
+use Rattle.paper.specs.Index.{runOf, rowRun, shares, sharer, badAt, sharedAt, Booted}
 use Rattle.paper.proofs.Forms.{word-old, current-first, current-last}
-use Rattle.entries.specs.Row.{rowRun, Begins, Stated, Filled, Runs, Fits, Holder}
+use Rattle.entries.specs.Row.{Begins, Stated, Filled, Runs, Fits, Holder}
 
 -- a test of a run that was read
 pub read : (p : Run → Bool) {a b : Run} {x y : Bool} → a ≡ b → x ≡ p a → x ≡ y → p b ≡ y

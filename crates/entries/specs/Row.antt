@@ -8,11 +8,7 @@ use Rattle.lent.specs.Least.{None}
 use Rattle.paper.specs.declared.sizes.Sizes.{Sizes}
 use Rattle.paper.specs.declared.sizes.Run.{Run}
 use Rattle.paper.specs.Sizes.{wordAt, capacityOf}
-use Rattle.paper.specs.Index.{runOf, badAt, sharedAt, Booted}
-
--- the run of slot s
-unfoldable pub rowRun : List ℕ → ℕ → Run
-rowRun row s = record { first = getD row (2 * (s - 1)) 0; last = getD row (2 * (s - 1) + 1) 0 }
+use Rattle.paper.specs.Index.{runOf, rowRun, badAt, sharedAt, Booted}
 
 -- s is a slot, and the row reaches it
 pub record InRow (row : List ℕ) (s : ℕ) : Type 0 where

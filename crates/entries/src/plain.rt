@@ -5,8 +5,8 @@ ghost use Prim.Native.Nat.{_+_, _*_, _≤_};
 ghost use lib.ListN.{length};
 ghost use Rattle.lent.specs.Least.{least, None};
 ghost use Rattle.paper.specs.Sizes.{capacityOf, Ranged};
-ghost use Rattle.paper.specs.Index.{runOf, badAt, aboveAt, sharedAt, indexOf, Booted};
-ghost use Rattle.entries.specs.Row.{rowRun, InRow, Runs, Fits, Bare};
+ghost use Rattle.paper.specs.Index.{runOf, rowRun, badAt, aboveAt, sharedAt, indexOf, Booted};
+ghost use Rattle.entries.specs.Row.{InRow, Runs, Fits, Bare};
 use paper::answer::Opened;
 use paper::refusal::Refusal;
 use paper::sizes::Sizes;
@@ -23,7 +23,7 @@ fn bad_in(row: &[u32], z: Sizes, s: usize) -> bool
 }
 
 // The lowest slot up to U that is neither empty nor in range, or 0. None of the first `from` is.
-fn lowest_bad(row: &[u32], z: Sizes, from: usize) -> usize
+pub fn lowest_bad(row: &[u32], z: Sizes, from: usize) -> usize
     requires { ⌜ Ranged z ⌝ }
     requires { ⌜ (2 * z .u ≤ length (now row)) × (from ≤ z .u) ⌝ }
     requires { ⌜ None (badAt z (rowRun (now row))) from ⌝ }
@@ -41,7 +41,7 @@ fn lowest_bad(row: &[u32], z: Sizes, from: usize) -> usize
 }
 
 // The lowest slot up to U that shares a record with a smaller one, or 0. None of the first `from` does.
-fn lowest_shared(row: &[u32], z: Sizes, from: usize) -> usize
+pub fn lowest_shared(row: &[u32], z: Sizes, from: usize) -> usize
     requires { ⌜ Ranged z ⌝ }
     requires { ⌜ (2 * z .u ≤ length (now row)) × (from ≤ z .u) ⌝ }
     requires { ⌜ None (sharedAt (rowRun (now row))) from ⌝ }

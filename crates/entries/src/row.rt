@@ -3,8 +3,8 @@ ghost use mathlib.Core.Path.{_≡_};
 ghost use Prim.Native.Nat.{_+_, _*_, _-_, _≤_};
 ghost use lib.ListN.{length};
 ghost use Rattle.lent.specs.Number.{Plain, widened};
-ghost use Rattle.paper.specs.Index.{sharer, Booted};
-ghost use Rattle.entries.specs.Row.{rowRun, InRow, InFile, Begins, Stated, Filled, Runs};
+ghost use Rattle.paper.specs.Index.{rowRun, sharer, Booted};
+ghost use Rattle.entries.specs.Row.{InRow, InFile, Begins, Stated, Filled, Runs};
 use paper::sizes::Run;
 use paper::sizes::Sizes;
 

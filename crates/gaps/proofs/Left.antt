@@ -21,13 +21,13 @@ use Rattle.paper.specs.declared.answer.Opened.{Opened}
 use Rattle.paper.specs.declared.refusal.Refusal.{Refusal}
 use Rattle.paper.specs.declared.answer.Opened.the-variants.{Opens, Refused}
 use Rattle.paper.specs.Sizes.{startOf}
-use Rattle.paper.specs.Index.{runOf, sharer, bootOf, openOf, Booted}
+use Rattle.paper.specs.Index.{runOf, rowRun, sharer, bootOf, openOf, Booted}
 use Rattle.paper.specs.Store.{runFrom}
 use Rattle.paper.specs.Gaps.{recordAt, leftAt, gapsZero}
 use Rattle.paper.proofs.Sizing.{less, times}
 use Rattle.paper.proofs.Opening.{boot-sound, open-index, index-same}
 use Rattle.paper.proofs.Gaps.{left-facts, zeros-not-left, listed-not-left, false-gaps}
-use Rattle.entries.specs.Row.{rowRun, Runs}
+use Rattle.entries.specs.Row.{Runs}
 use Rattle.entries.proofs.Rows.{sharer-same, holder-same}
 use Rattle.index.specs.Judging.{Decoded, Shows, Looked}
 use Rattle.gaps.specs.Held.{Held, Swept, Next}

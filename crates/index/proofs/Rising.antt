@@ -11,8 +11,8 @@ use Rattle.paper.specs.declared.sizes.Sizes.{Sizes}
 use Rattle.paper.specs.declared.sizes.Run.{Run}
 use Rattle.paper.specs.Index.{runOf, sharedAt, Lies}
 use Rattle.paper.proofs.Opening.{lies-good, facts-shared, empty-apart}
-use Rattle.entries.specs.Row.{Runs, Bare}
-use Rattle.entries.proofs.Rows.{runs-low, runs-more}
+use Rattle.entries.specs.Row.{Runs, Fits, Bare}
+use Rattle.entries.proofs.Rows.{runs-low, runs-more, fits-none}
 use Rattle.index.specs.Judging.{Still, Climbs, Judged-to}
 
 -- ---- runs that rise
@@ -72,27 +72,27 @@ module _ (n : ℕ) (run : ℕ → Run) where
               shared = facts-shared run (i + 1) (λ t p q h. omega (arith, k .past (h .left), h .before, c .reach t p (omega arith)));
             }
 
+-- slots that rise break no rule, where the highest of their records is one of the file's
+pub climbs-fits : {z : Sizes} {run : ℕ → Run} {i top : ℕ} → Climbs (z .n) run i top → top ≤ z .n + z .d → Fits z run i
+climbs-fits {z} {run} {i} {top} c l =
+    record { bad = record { none = λ s a b. lies-good z run s (lies s a b) }; shared = c .shared }
+  where
+    lies : (s : ℕ) → 1 ≤ s → s ≤ i → Lies z (run s)
+    lies s a b =
+        record {
+          low = λ k. c .past s a b (omega (arith, c .order s a b));
+          order = λ k. c .order s a b;
+          high = omega (arith, c .reach s a b);
+        }
+
 module _ {f : List ℕ} {z : Sizes} {row : List ℕ} {i top r : ℕ} where
   -- r slots of the first i: all, or none
   pub climbs-judged : i ≤ z .u → Runs f z row i → Climbs (z .n) (runOf f z) i top → (r ≤ i) × (1 ≤ r → (r ≡ i) × (top ≤ z .n + z .d)) → Judged-to f z row r
-  climbs-judged m h c w =
-      record {
-        most = omega (arith, w .0);
-        runs = runs-low h r (w .0);
-        fits =
-            record {
-              bad = record { none = λ s a b. lies-good z (runOf f z) s (lies s a (omega (arith, w .0)) (w .1 (omega arith) .1)) };
-              shared = record { none = λ s a b. c .shared .none s a (omega (arith, w .0)) };
-            };
-      }
+  climbs-judged m h c w = record { most = omega (arith, w .0); runs = runs-low h r (w .0); fits = fits (decLe 1 r) }
     where
-      lies : (s : ℕ) → 1 ≤ s → s ≤ i → top ≤ z .n + z .d → Lies z (runOf f z s)
-      lies s a b l =
-          record {
-            low = λ k. c .past s a b (omega (arith, c .order s a b));
-            order = λ k. c .order s a b;
-            high = omega (arith, c .reach s a b);
-          }
+      fits : Dec (1 ≤ r) → Fits z (runOf f z) r
+      fits (yes k) = let q : i ≡ r = omega (arith, w .1 k .0) in subst (Fits z (runOf f z)) q (climbs-fits c (w .1 k .1))
+      fits (no k) = fits-none z (runOf f z) r (omega arith)
 
 -- ---- slots that are empty
 

@@ -8,7 +8,7 @@ use paper::sizes::Sizes;
 
 pub mod change;
 pub mod lay;
-mod rise;
+pub mod rise;
 pub mod rowed;
 mod skip;
 pub mod slots;

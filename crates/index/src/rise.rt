@@ -9,7 +9,7 @@ ghost use Rattle.index.specs.Judging.{Still, Judged-to};
 use paper::sizes::Run;
 use paper::sizes::Sizes;
 
-fn higher(a: usize, b: usize) -> usize
+pub fn higher(a: usize, b: usize) -> usize
     ensures { λ r. ⌜ (a ≤ r) × (b ≤ r) ⌝ }
 {
     if a < b {
@@ -19,7 +19,7 @@ fn higher(a: usize, b: usize) -> usize
 }
 
 // The run is empty, or in order and past record `top`.
-fn still(a: Run, top: usize) -> bool
+pub fn still(a: Run, top: usize) -> bool
     ensures { λ r. ⌜ (r ≡ true → Still a top) ⌝ }
 {
     if a.first == 0 {

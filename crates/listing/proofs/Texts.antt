@@ -16,10 +16,10 @@ use Rattle.paper.specs.declared.answer.Opened.{Opened}
 use Rattle.paper.specs.declared.answer.Opened.the-variants.{Opens, Refused}
 use Rattle.paper.specs.Refusals.{numberOf, valueOf}
 use Rattle.paper.specs.Sizes.{capacityOf, Ranged}
-use Rattle.paper.specs.Index.{runOf, Full, slotsOf, openOf, Lies, Sound}
+use Rattle.paper.specs.Index.{runOf, rowRun, Full, slotsOf, openOf, Lies, Sound}
 use Rattle.paper.specs.Lister.{decimal, linesText, textOf, listText, slotsWord, usedWord, scansWord, refusedWord, slotWord}
 use Rattle.paper.proofs.Opening.{open-sound, inside-all}
-use Rattle.entries.specs.Row.{rowRun, Runs}
+use Rattle.entries.specs.Row.{Runs}
 use Rattle.look.specs.Put.{Put}
 use Rattle.look.specs.Rows.{scansIn, joined, piecesIn}
 use Rattle.look.proofs.Putting.{same-pieces, all-short}

@@ -4,7 +4,7 @@ ghost use Prim.Native.Nat.{_+_, _≤_};
 ghost use lib.ListN.{length};
 ghost use Rattle.lent.specs.Write.{write};
 ghost use Rattle.paper.specs.Lister.{listText, printed};
-ghost use Rattle.entries.specs.Row.{rowRun};
+ghost use Rattle.paper.specs.Index.{rowRun};
 ghost use Rattle.look.specs.Put.{Put};
 ghost use Rattle.look.specs.Rows.{pieceIf, piecesIn};
 ghost use Rattle.listing.specs.Text.{lineFor, refusedOf};

@@ -20,9 +20,9 @@ use Rattle.paper.specs.declared.refusal.Refusal.the-variants.{TooSmall}
 use Rattle.paper.specs.declared.answer.Opened.the-variants.{Opens, Refused}
 use Rattle.paper.specs.declared.answer.Listed.{Listed}
 use Rattle.paper.specs.declared.answer.Listed.the-variants.{Scans, Refused as Unlisted}
-use Rattle.paper.specs.Index.{runOf, empty, slotsOf, openOf}
+use Rattle.paper.specs.Index.{runOf, rowRun, empty, slotsOf, openOf}
 use Rattle.paper.specs.Look.{linesOf, listedOf, listedOut}
-use Rattle.entries.specs.Row.{rowRun, Runs}
+use Rattle.entries.specs.Row.{Runs}
 use Rattle.look.specs.Put.{Put}
 use Rattle.look.specs.Rows.{full, scansIn, oneIf, joined, pieceIf, piecesIn, rowOf}
 use Rattle.look.proofs.Calls.{call-opens, call-refused}

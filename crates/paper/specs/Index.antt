@@ -4,7 +4,7 @@ use mathlib.Core.Path.{_≡_}
 use mathlib.Core.Bool.{Bool, not}
 use mathlib.Core.List.{List, [], _∷_, _++_}
 use lib.Dec.{ltb, leb, eqb}
-use lib.ListN.{length}
+use lib.ListN.{length, getD}
 use Rattle.lent.specs.Lists.{all, those}
 use Rattle.lent.specs.Least.{least}
 use Rattle.lent.specs.Checks.{Check, check, judge}
@@ -15,11 +15,15 @@ use Rattle.paper.specs.declared.refusal.Refusal.{Refusal}
 use Rattle.paper.specs.declared.refusal.Refusal.the-variants.{BadEntry, AboveUse, SharedRecord}
 use Rattle.paper.specs.declared.answer.Opened.{Opened}
 use Rattle.paper.specs.declared.answer.Opened.the-variants.{Opens, Refused}
-use Rattle.paper.specs.Sizes.{sizesOf, versionOf, wordAt, capacityOf, homeOf, startOf, bytesOf, bootChecks, changeBoot, Ranged}
+use Rattle.paper.specs.Sizes.{sizesOf, versionOf, wordAt, capacityOf, homeOf, startOf, bytesOf, sizeChecks, bootChecks, changeBoot, Ranged}
 
 -- the first two numbers of slot s's entry: "first record, last record"
 abbrev pub runOf : List ℕ → Sizes → ℕ → Run
 runOf f z s = record { first = wordAt (z .version) f (homeOf z s) 0; last = wordAt (z .version) f (homeOf z s) 1 }
+
+-- the same in a row of numbers: first and last of each slot, in slot order
+unfoldable pub rowRun : List ℕ → ℕ → Run
+rowRun row s = record { first = getD row (2 * (s - 1)) 0; last = getD row (2 * (s - 1) + 1) 0 }
 
 -- From here on the entries are a function that gives each slot its run, however the file states it.
 
@@ -87,9 +91,12 @@ openChecks f = bootChecks f ++ indexChecks (sizesOf f) (runOf f (sizesOf f))
 abbrev pub changeChecks : List ℕ → List (Check Refusal)
 changeChecks f = changeBoot f ++ indexChecks (sizesOf f) (runOf f (sizesOf f))
 
--- the judgement of the bootstrap alone, of an index alone, and of a file
+-- the judgement of the bootstrap alone, of its sizes where there are 512 bytes, of an index alone, and of a file
 unfoldable pub bootOf : List ℕ → Opened
 bootOf f = judge Refused (bootChecks f) (Opens (sizesOf f))
+
+unfoldable pub sizedOf : ℕ → Sizes → Opened
+sizedOf len z = judge Refused (sizeChecks len z) (Opens z)
 
 unfoldable pub indexOf : Sizes → (ℕ → Run) → Opened
 indexOf z run = judge Refused (indexChecks z run) (Opens z)

@@ -103,17 +103,19 @@ countTests z = leb (z .n + z .d) 1000000 ∷ leb (z .u) (capacityOf z) ∷ leb (
 unfoldable pub inRange : Sizes → Bool
 inRange z = all (shaped z ∷ countTests z)
 
--- refusal 1
-abbrev pub tooShort : List ℕ → Check Refusal
-tooShort f = check (ltb (length f) 512) TooShort
+-- refusal 1, over a file's length
+abbrev pub short : ℕ → Check Refusal
+short len = check (ltb len 512) TooShort
 
--- refusals 3 to 5, in order
+-- refusals 3 to 5, in order, over the length and the sizes that the bootstrap states
+abbrev pub sizeChecks : ℕ → Sizes → List (Check Refusal)
+sizeChecks len z = check (ltb 1 (z .version)) UnknownForm ∷ check (not (inRange z)) OutOfRange ∷ check (ltb len (bytesOf z)) PastEnd ∷ []
+
+abbrev pub tooShort : List ℕ → Check Refusal
+tooShort f = short (length f)
+
 abbrev pub wordChecks : List ℕ → List (Check Refusal)
-wordChecks f =
-    check (ltb 1 (versionOf f)) UnknownForm
-    ∷ check (not (inRange (sizesOf f))) OutOfRange
-    ∷ check (ltb (length f) (bytesOf (sizesOf f))) PastEnd
-    ∷ []
+wordChecks f = sizeChecks (length f) (sizesOf f)
 
 -- a look asks for all of these
 abbrev pub bootChecks : List ℕ → List (Check Refusal)

@@ -13,11 +13,11 @@ use Rattle.marks.specs.Marks.{markOf, Met, Blocked}
 use Rattle.paper.specs.declared.sizes.Sizes.{Sizes}
 use Rattle.paper.specs.declared.sizes.Run.{Run}
 use Rattle.paper.specs.Sizes.{capacityOf, roomOf, Ranged}
-use Rattle.paper.specs.Index.{runOf, empty, shares, sharer, Lies, Sound}
+use Rattle.paper.specs.Index.{runOf, rowRun, empty, shares, sharer, Lies, Sound}
 use Rattle.paper.specs.Store.{runFrom, freeAt, freePlace, emptySlot}
 use Rattle.paper.proofs.Opening.{Shares, share-facts, sharer-none, none-sharer, common-shares, facts-empty}
 use Rattle.paper.proofs.Free.{FreeAt, free-facts, facts-free}
-use Rattle.entries.specs.Row.{rowRun, Runs}
+use Rattle.entries.specs.Row.{Runs}
 use Rattle.entries.proofs.Rows.{sharer-same, holder-same}
 use Rattle.room.specs.Passing.{Sought, Hints, Missed, Passed, Vacant}
 

@@ -7,9 +7,9 @@ use Rattle.marks.specs.Marks.{markOf}
 use Rattle.paper.specs.declared.sizes.Sizes.{Sizes}
 use Rattle.paper.specs.declared.sizes.Run.{Run}
 use Rattle.paper.specs.Sizes.{capacityOf, Ranged}
-use Rattle.paper.specs.Index.{sharer, Lies}
+use Rattle.paper.specs.Index.{rowRun, sharer, Lies}
 use Rattle.paper.specs.Store.{runFrom, emptySlot}
-use Rattle.entries.specs.Row.{rowRun, Holder}
+use Rattle.entries.specs.Row.{Holder}
 
 -- the row of a file that opens, and a scan of k records
 pub record Sought (row : List ℕ) (z : Sizes) (k : ℕ) : Type 0 where

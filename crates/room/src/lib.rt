@@ -4,7 +4,7 @@ ghost use Prim.Native.Nat.{_*_, _≤_};
 ghost use lib.ListN.{length};
 ghost use Rattle.paper.specs.Sizes.{Ranged};
 ghost use Rattle.paper.specs.Store.{freePlace};
-ghost use Rattle.entries.specs.Row.{rowRun};
+ghost use Rattle.paper.specs.Index.{rowRun};
 ghost use Rattle.room.specs.Passing.{Sought, Hints, Passed, Vacant};
 use paper::sizes::Sizes;
 

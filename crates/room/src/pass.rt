@@ -1,7 +1,7 @@
 //! Past the places that a scan stands in: by the marks of the records, or slot by slot.
 ghost use Prim.Native.Nat.{_≤_, _<_};
 ghost use Rattle.marks.specs.Marks.{Blocked};
-ghost use Rattle.entries.specs.Row.{rowRun};
+ghost use Rattle.paper.specs.Index.{rowRun};
 ghost use Rattle.room.specs.Passing.{Sought, Hints, Passed};
 use paper::sizes::Sizes;
 

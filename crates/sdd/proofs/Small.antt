@@ -41,9 +41,9 @@ use Rattle.paper.specs.Gaps.{gapsOf}
 use Rattle.paper.specs.Find.{findChecks, reportOf}
 use Rattle.paper.specs.Convert.{tooSmall, formChecks, convertChecks, convertOf}
 use Rattle.paper.specs.Step.{agrees, hasLeft, wroteOf, confirmed, confirmOf, stands, stepAnswer}
-use Rattle.paper.proofs.Opening.{boot-sound, boot-fires, open-index, open-refused, refused-fires, then-opens, then-refused, change-old, change-look}
+use Rattle.paper.proofs.Opening.{boot-sound, boot-fires, open-index, open-refused, open-sound, refused-fires, then-opens, then-refused, change-old, change-look}
 use Rattle.paper.proofs.Reasons.{reason-least}
-use Rattle.sdd.specs.Face.{TakenSmall, SpanSmall, ListedSmall, AskedSmall, StepSmall}
+use Rattle.sdd.specs.Face.{OpenedSmall, TakenSmall, SpanSmall, ListedSmall, AskedSmall, StepSmall}
 
 pub number-small : (r : Refusal) → numberOf r ≤ 19
 number-small TooShort = omega arith
@@ -92,7 +92,7 @@ index-fires z run r e = refused-fires (indexChecks z run) z r e
 same-refusal : (f : List ℕ) (q r : Refusal) → openOf f ≡ opened.Refused q → openOf f ≡ opened.Refused r → q ≡ r
 same-refusal f q r p e = cc
 
-pub open-small : (f : List ℕ) (r : Refusal) → openOf f ≡ opened.Refused r → valueOf r ≤ 4096
+open-small : (f : List ℕ) (r : Refusal) → openOf f ≡ opened.Refused r → valueOf r ≤ 4096
 open-small f r e = go (bootOf f) refl
   where
     go : (v : Opened) → bootOf f ≡ v → valueOf r ≤ 4096
@@ -102,6 +102,13 @@ open-small f r e = go (bootOf f) refl
     go (opened.Refused q) b =
         subst (λ (x : Refusal). valueOf x ≤ 4096) (same-refusal f q r (open-refused f b) e)
         (small-fires (bootChecks f) (omega arith, (omega arith, (omega arith, (omega arith, tt)))) q (boot-fires f b))
+
+pub opened-fits : (f : List ℕ) → OpenedSmall (openOf f)
+opened-fits f = go (openOf f) refl
+  where
+    go : (v : Opened) → openOf f ≡ v → OpenedSmall v
+    go (opened.Opens z) e = open-sound e .booted .ranged .shape
+    go (opened.Refused r) e = open-small f r e
 
 then-small : (f : List ℕ) (ds : List (Check Refusal)) → AllSmall ds → (r : Refusal) → fired (openChecks f ++ ds) ≡ fires r → valueOf r ≤ 4096
 then-small f ds h r e = go (openOf f) refl

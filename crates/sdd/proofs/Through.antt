@@ -7,6 +7,7 @@ use native.Mathlib.Omega.{arith}
 use lib.Dec.{eqb}
 use Rattle.lent.proofs.Lists.{all-true}
 use borrow.Author.Tests.{leb-true}
+use Rattle.paper.specs.declared.answer.Opened.{Opened}
 use Rattle.paper.specs.declared.answer.Listed.{Listed}
 use Rattle.paper.specs.declared.answer.Span.{Span}
 use Rattle.paper.specs.declared.answer.Taken.{Taken}
@@ -18,14 +19,20 @@ use Rattle.paper.specs.declared.job.Begun.{Begun}
 use Rattle.paper.specs.declared.job.Step.{Step}
 use Rattle.paper.specs.declared.job.Step.the-variants as step
 use Rattle.paper.specs.declared.job.Stepped.{Stepped}
-use Rattle.paper.specs.Refusals.{listedSays, spanSays, takenSays, askedSays, stepSays}
+use Rattle.paper.specs.Refusals.{openedSays, listedSays, spanSays, takenSays, askedSays, stepSays}
 use Rattle.paper.specs.Sizes.{sizesOf}
 use Rattle.paper.specs.Step.{agrees, hasLeft, stepFile, stepJob, stepAnswer}
-use Rattle.paper.proofs.Answers.{listed-only, span-only, taken-only, asked-only, step-only}
-use Rattle.sdd.specs.Face.{listedC, askedC, spanC, foundC, jobC, jobOf, begunC, steppedC, toldOf, beside, flagTests, flagged, stepC, stepFileC, TakenSmall, SpanSmall, ListedSmall, AskedSmall, StepSmall}
+use Rattle.paper.proofs.Answers.{opened-only, listed-only, span-only, taken-only, asked-only, step-only}
+use Rattle.sdd.specs.Face.{openedC, listedC, askedC, spanC, foundC, jobC, jobOf, begunC, steppedC, toldOf, beside, flagTests, flagged, stepC, stepFileC, OpenedSmall, TakenSmall, SpanSmall, ListedSmall, AskedSmall, StepSmall}
 use Rattle.sdd.specs.declared.face.CJob.{CJob}
 use Rattle.sdd.specs.declared.face.CStepped.{CStepped}
 use Rattle.sdd.specs.declared.jobs.Told.{Told}
+
+pub opened-small : (a b : Opened) → openedSays a ≡ openedSays b → OpenedSmall b → OpenedSmall a
+opened-small a b e h = subst OpenedSmall (sym (opened-only a b e)) h
+
+pub opened-face : (len : ℕ) (a b : Opened) → openedSays a ≡ openedSays b → openedC len a ≡ openedC len b
+opened-face len a b e = ap (openedC len) (opened-only a b e)
 
 pub span-small : (a b : Span) → spanSays a ≡ spanSays b → SpanSmall b → SpanSmall a
 span-small a b e h = subst SpanSmall (sym (span-only a b e)) h

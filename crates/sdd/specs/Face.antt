@@ -22,7 +22,7 @@ use Rattle.paper.specs.declared.job.Begun.{Begun}
 use Rattle.paper.specs.declared.job.Step.{Step}
 use Rattle.paper.specs.declared.job.Step.the-variants as step
 use Rattle.paper.specs.Refusals.{numberOf, valueOf, kindSays}
-use Rattle.paper.specs.Sizes.{capacityOf, roomOf}
+use Rattle.paper.specs.Sizes.{capacityOf, roomOf, Shaped}
 use Rattle.paper.specs.Step.{stepFile, stepJob, stepAnswer}
 use Rattle.sdd.specs.declared.face.Why.{Why}
 use Rattle.sdd.specs.declared.face.COpened.{COpened}
@@ -167,7 +167,11 @@ stepC f scan c =
 unfoldable pub stepFileC : List ℕ → List ℕ → CJob → List ℕ
 stepFileC f scan c = cond (flagged c) (stepFile f scan (jobOf c)) f
 
--- ---- no slot is above 4,096 and no reason above 6: a refusal's value fits the face
+-- ---- no slot is above 4,096 and no reason above 6: a refusal's value fits the face. Sizes that open are in their ranges.
+
+abbrev pub OpenedSmall : Opened → Type 0
+OpenedSmall (opened.Opens z) = Shaped z
+OpenedSmall (opened.Refused r) = valueOf r ≤ 4096
 
 abbrev pub TakenSmall : Taken → Type 0
 TakenSmall taken.Accepted = Unit

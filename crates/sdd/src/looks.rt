@@ -6,7 +6,7 @@ ghost use Rattle.paper.specs.Look.{listedOf, listedOut, foundOf, showOf, readOf
 ghost use Rattle.paper.specs.Gaps.{gapsOf};
 ghost use Rattle.paper.specs.Find.{reportOf, reportOut};
 ghost use Rattle.paper.specs.Scan.{classOf, dataOf};
-ghost use Rattle.sdd.specs.Face.{openedC, listedC, askedC, spanC, foundC, SpanSmall, ListedSmall, AskedSmall};
+ghost use Rattle.sdd.specs.Face.{openedC, listedC, askedC, spanC, foundC, OpenedSmall, SpanSmall, ListedSmall, AskedSmall};
 use super::face::CAnswer;
 use super::face::CEntry;
 use super::face::CListed;
@@ -22,11 +22,11 @@ use paper::answer::Listed;
 use paper::answer::Opened;
 use paper::answer::Span;
 
-#[no_mangle]
-pub extern "C" fn sdd_open(file: &[u8]) -> COpened
-    ensures { λ r. ⌜ r ≡ openedC (length (now (file .entry))) (openOf (now (file .entry))) ⌝ }
+// The sizes of a file of `len` bytes, in numbers.
+pub fn opened(o: Opened, len: usize) -> COpened
+    requires { ⌜ OpenedSmall o ⌝ }
+    ensures { λ r. ⌜ r ≡ openedC len o ⌝ }
 {
-    let o = index::open(file);
     match o {
         Opened::Opens(z) => COpened {
             why: accepted(),
@@ -38,7 +38,7 @@ pub extern "C" fn sdd_open(file: &[u8]) -> COpened
             counter: z.counter as u64,
             kind: z.kind as u64,
             capacity: z.capacity() as u64,
-            room: z.room(file.len()) as u64,
+            room: z.room(len) as u64,
             version: z.version as u64,
         },
         Opened::Refused(r) => COpened {
@@ -55,6 +55,14 @@ pub extern "C" fn sdd_open(file: &[u8]) -> COpened
             version: 0,
         },
     }
+}
+
+#[no_mangle]
+pub extern "C" fn sdd_open(file: &[u8]) -> COpened
+    ensures { λ r. ⌜ r ≡ openedC (length (now (file .entry))) (openOf (now (file .entry))) ⌝ }
+{
+    let o = index::open(file);
+    opened(o, file.len())
 }
 
 // A question's answer, in numbers.

@@ -15,11 +15,11 @@ use Rattle.paper.specs.declared.sizes.Run.{Run}
 use Rattle.paper.specs.declared.answer.Opened.{Opened}
 use Rattle.paper.specs.declared.answer.Opened.the-variants.{Opens}
 use Rattle.paper.specs.Sizes.{sizesOf, capacityOf, Shaped}
-use Rattle.paper.specs.Index.{runOf, empty, changeBootOf, changeOf}
+use Rattle.paper.specs.Index.{runOf, rowRun, empty, changeBootOf, changeOf}
 use Rattle.paper.specs.Store.{recordsFor, freePlace, emptySlot, highest, oldRun}
 use Rattle.paper.proofs.Opening.{full-facts, change-sound, change-index, index-same}
 use Rattle.paper.proofs.Used.{full-highest}
-use Rattle.entries.specs.Row.{rowRun, InFile, Stated, Bare}
+use Rattle.entries.specs.Row.{InFile, Stated, Bare}
 use Rattle.index.specs.Judging.{Looked}
 use Rattle.room.specs.Passing.{Sought, Hints, Vacant}
 use Rattle.room.proofs.Freeing as room

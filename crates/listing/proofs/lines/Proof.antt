@@ -3,7 +3,7 @@ use Rattle.look.proofs.Putting.{put-begins, put-keeps, put-ends, next-room, nex
 use Rattle.listing.specs.Text.{lineFor}
 use Rattle.look.specs.Rows.{piecesIn}
 use Rattle.look.specs.Put.{Put}
-use Rattle.entries.specs.Row.{rowRun}
+use Rattle.paper.specs.Index.{rowRun}
 use Prim.Native.Nat.{_≤_, _-_}
 use native.Mathlib.Omega.{arith}
 use borrow.Author.Needs.{needs}

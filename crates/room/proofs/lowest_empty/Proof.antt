@@ -1,7 +1,6 @@
 use Rattle.room.proofs.Freeing.{vacant-here, vacant-above, vacant-none}
 use Rattle.entries.proofs.Rows.{read}
-use Rattle.entries.specs.Row.{rowRun}
-use Rattle.paper.specs.Index.{empty}
+use Rattle.paper.specs.Index.{rowRun, empty}
 use Rattle.lent.proofs.Leasts.{none-zero, none-more}
 use Rattle.lent.specs.Least.{None}
 use Prim.Native.Nat.{_≤_, _-_}

@@ -1,6 +1,6 @@
 use Rattle.room.proofs.Freeing.{jump, touch, free-here, free-end}
 use Rattle.room.specs.Passing.{Passed}
-use Rattle.entries.specs.Row.{rowRun}
+use Rattle.paper.specs.Index.{rowRun}
 use Prim.Native.Nat.{_-_}
 use Rattle.paper.specs.declared.sizes.Run.{Run}
 use mathlib.Core.Path.{sym, _∙_, ap}

@@ -3,8 +3,7 @@ use Prim.Native.Nat.{_≤_, _-_}
 use native.Mathlib.Omega.{arith}
 use Rattle.lent.specs.Least.{None}
 use Rattle.lent.proofs.Leasts.{none-more, least-here, least-end}
-use Rattle.entries.specs.Row.{rowRun}
-use Rattle.paper.specs.Index.{badAt}
+use Rattle.paper.specs.Index.{rowRun, badAt}
 use borrow.Author.Needs.{needs}
 use Rattle.entries.proofs.plain.lowest_bad.Statement.{statement}
 use Rattle.entries.proofs.plain.lowest_bad.Tie as tie

@@ -1,6 +1,5 @@
 use Rattle.entries.proofs.Judging.{shared-some, shared-none}
-use Rattle.entries.specs.Row.{rowRun}
-use Rattle.paper.specs.Index.{sharedAt}
+use Rattle.paper.specs.Index.{rowRun, sharedAt}
 use Rattle.lent.proofs.Leasts.{none-more, least-here, least-end}
 use Rattle.lent.specs.Least.{None}
 use Prim.Native.Nat.{_≤_, _-_}

@@ -1,4 +1,4 @@
-use Rattle.entries.specs.Row.{rowRun}
+use Rattle.paper.specs.Index.{rowRun}
 use borrow.Author.Needs.{needs}
 use Rattle.entries.proofs.row.run_in.Statement.{statement}
 use Rattle.entries.proofs.row.run_in.Tie as tie

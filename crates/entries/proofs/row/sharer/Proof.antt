@@ -3,8 +3,7 @@ use Prim.Native.Nat.{_≤_, _-_}
 use native.Mathlib.Omega.{arith}
 use Rattle.lent.specs.Least.{None}
 use Rattle.lent.proofs.Leasts.{none-zero, none-more, least-here, least-end}
-use Rattle.entries.specs.Row.{rowRun}
-use Rattle.paper.specs.Index.{shares, sharer}
+use Rattle.paper.specs.Index.{rowRun, shares, sharer}
 use Rattle.entries.proofs.Rows.{read}
 use borrow.Author.Needs.{needs}
 use Rattle.entries.proofs.row.sharer.Statement.{statement}

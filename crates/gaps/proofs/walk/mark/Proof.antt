@@ -2,7 +2,7 @@ use native.Mathlib.Omega.{arith}
 use mathlib.Core.Path.{refl}
 use borrow.Author.Tests.{leb-true, not-false}
 use Rattle.lent.proofs.Lists.{true≢false}
-use Rattle.entries.specs.Row.{rowRun}
+use Rattle.paper.specs.Index.{rowRun}
 use Rattle.entries.proofs.Rows.{fits-none}
 use Rattle.index.proofs.Laying.{shows-none}
 use Rattle.gaps.proofs.Left.{held}

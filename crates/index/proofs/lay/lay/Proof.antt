@@ -1,8 +1,7 @@
 use native.Mathlib.Omega.{arith}
 use mathlib.Core.Path.{refl, _∙_}
 use borrow.Author.Tests.{not-false}
-use Rattle.paper.specs.Index.{runOf}
-use Rattle.entries.specs.Row.{rowRun}
+use Rattle.paper.specs.Index.{runOf, rowRun}
 use Rattle.entries.proofs.Rows.{runs-none, runs-low, fits-none, fits-same}
 use Rattle.index.proofs.Laying.{fits-low, shows-none, shows-row}
 use borrow.Author.Needs.{needs}

@@ -1,7 +1,6 @@
 use native.Mathlib.Omega.{arith}
 use mathlib.Core.Path.{sym, _∙_}
-use Rattle.paper.specs.Index.{runOf}
-use Rattle.entries.specs.Row.{rowRun}
+use Rattle.paper.specs.Index.{runOf, rowRun}
 use Rattle.entries.proofs.Rows.{runs-low, fits-same}
 use Rattle.index.proofs.Laying.{shows-row}
 use borrow.Author.Needs.{needs}

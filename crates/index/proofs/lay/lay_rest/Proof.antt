@@ -3,7 +3,8 @@ use Prim.Native.Nat.{_≤_, _-_}
 use mathlib.Core.Path.{_≡_, refl, _∙_}
 use lib.ListN.{length}
 use borrow.Author.Tests.{not-false}
-use Rattle.entries.specs.Row.{rowRun, Fits}
+use Rattle.paper.specs.Index.{rowRun}
+use Rattle.entries.specs.Row.{Fits}
 use Rattle.index.specs.Judging.{Shows}
 use Rattle.index.proofs.Laying.{fits-more, shows-more, shows-end}
 use borrow.Author.Needs.{needs}

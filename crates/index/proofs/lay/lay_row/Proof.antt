@@ -3,7 +3,7 @@ use Prim.Native.Nat.{ℕ, _≤_, _-_}
 use mathlib.Core.Path.{_≡_, refl, _∙_}
 use lib.ListN.{length}
 use borrow.Author.Tests.{not-false}
-use Rattle.entries.specs.Row.{rowRun}
+use Rattle.paper.specs.Index.{rowRun}
 use Rattle.index.specs.Judging.{Shows}
 use Rattle.index.proofs.Laying.{fits-read, shows-more, shows-end}
 use borrow.Author.Needs.{needs}

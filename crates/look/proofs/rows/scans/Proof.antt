@@ -1,6 +1,6 @@
 use Rattle.look.proofs.Rowing.{count-next, count-ends}
 use Rattle.look.specs.Rows.{full, scansIn}
-use Rattle.entries.specs.Row.{rowRun}
+use Rattle.paper.specs.Index.{rowRun}
 use Rattle.lent.proofs.Lists.{length-those}
 use Rattle.lent.specs.Lists.{those}
 use lib.ListN.{length}

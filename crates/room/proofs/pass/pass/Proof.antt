@@ -1,5 +1,5 @@
 use Rattle.room.proofs.Freeing.{passed-marks}
-use Rattle.entries.specs.Row.{rowRun}
+use Rattle.paper.specs.Index.{rowRun}
 use borrow.Author.Needs.{needs}
 use Rattle.room.proofs.pass.pass.Statement.{statement}
 use Rattle.room.proofs.pass.pass.Tie as tie

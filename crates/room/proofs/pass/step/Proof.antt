@@ -1,5 +1,5 @@
 use Rattle.room.proofs.Freeing.{jump, touch-here}
-use Rattle.entries.specs.Row.{rowRun}
+use Rattle.paper.specs.Index.{rowRun}
 use native.Mathlib.Omega.{arith}
 use borrow.Author.Needs.{needs}
 use Rattle.room.proofs.pass.step.Statement.{statement}

@@ -1,6 +1,6 @@
 use Rattle.room.proofs.Freeing.{passed-none}
 use Rattle.room.specs.Passing.{Passed}
-use Rattle.entries.specs.Row.{rowRun}
+use Rattle.paper.specs.Index.{rowRun}
 use Prim.Native.Nat.{_≤_, _-_}
 use native.Mathlib.Omega.{arith}
 use borrow.Author.Needs.{needs}

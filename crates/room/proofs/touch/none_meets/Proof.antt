@@ -1,6 +1,6 @@
 use Rattle.room.proofs.Freeing.{missed-zero, missed-more}
 use Rattle.room.specs.Passing.{Missed}
-use Rattle.entries.specs.Row.{rowRun}
+use Rattle.paper.specs.Index.{rowRun}
 use Prim.Native.Nat.{_-_, _≤_}
 use mathlib.Core.Path.{_≡_}
 use native.Mathlib.Omega.{arith}
