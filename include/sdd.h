@@ -19,8 +19,8 @@
  * - Only memory lent as not `const` is ever written, and only where the call's own comment says so.
  *   A refused call writes nothing.
  * - `why` is {0, 0} where the call is accepted. Else it is the paper's refusal number with its slot
- *   or reason (0 where there is none), every other field of the answer is 0, and the job of a
- *   refused step is the job that was lent.
+ *   or reason (0 where there is none), and every other field of the answer is 0, but for two: the job of
+ *   a refused step is the job that was lent, and the link of a refused link_take the link that was lent.
  *
  * Stack: the calls allocate nothing, so their tables lie on the caller's stack, and a call on a file
  * that holds scans needs more than one on a blank file. SDD_STACK_.. below says what each call needs
@@ -39,15 +39,17 @@
  * one is above every limit; the counter alone has 16 plain bits. The type is 0. Ranges and rules are
  * the current form's. Where an entry's magic number is 2 its scan is SDD version 1; where it is another
  * (1 is IEEE KEEP) the scan is listed and shown but not read (18). Old files are looked at, by open,
- * list, entry_at, show, read, gaps_zero and find. They are not changed: save, keep and clear answer 2 and a
- * step 14, and blank makes files of the current form alone. to_current and to_old write a file's bootstrap
- * and index in the other form into other memory; the data section is the same in both.
+ * list, entry_at, show, read, gaps_zero, find and the three calls of the link. They are not changed: save,
+ * keep and clear answer 2 and a step 14, and blank makes files of the current form alone. to_current and
+ * to_old write a file's bootstrap and index in the other form into other memory; the data section is the
+ * same in both.
  *
  * The refusals by number. Each call's comment has its own in the order in which they are looked
  * for. A call that looks at a file has "open's own", 1 and then 3 to 8 as numbered; one that begins
  * a change has 1 to 8. find, which looks at no index, has 1 and then 3 to 5. Then come 9 or 12, 10, 18, 11,
  * 13 (so a keep's 12 comes before its 11); a list's and a find's 17 last; a conversion's 17 and then its 19;
- * a step's 14 first, and of a confirming step then open's own and 15.
+ * a step's 14 first, and of a confirming step then open's own and 15. The link's 17 comes first, and its 20
+ * where a rule can be judged only by bytes that have not come: after 1, and again after 5.
  *
  *    1  fewer than 512 bytes
  *    2  save, keep, clear: the file has the old form (word 8 is 0), which is not changed
@@ -68,10 +70,12 @@
  *   15  confirming step: the entry or the scan's records are not what the job gives, or a record of the old
  *       scan is not all zeros
  *   16  blank: sizes outside their ranges, or too large for what was lent
- *   17  list, find, to_current, to_old: what was lent for the answer is too short to hold it
+ *   17  list, find, to_current, to_old: what was lent for the answer is too short to hold it; link_begin,
+ *       link_take, link_finish: the row that was lent has fewer than 8,192 elements
  *   18  read: the entry of an old file says that the scan is not of version 1 (its magic is not 2)
  *   19  to_current, to_old: the file has the wanted form already, is of type 1, has a scan whose magic is
  *       not 2, or has a number that the old form cannot hold
+ *   20  link_finish: not enough bytes have come to tell: fewer than 32, or fewer than bootstrap and index take
  */
 #ifndef SDD_H
 #define SDD_H
@@ -103,7 +107,8 @@ enum {
   SDD_BAD_SIZES = 16,
   SDD_ANSWER_TOO_LONG = 17,
   SDD_NOT_VERSION_ONE = 18,
-  SDD_NOT_CONVERTIBLE = 19
+  SDD_NOT_CONVERTIBLE = 19,
+  SDD_NOT_ALL_CAME = 20
 };
 
 /* What a step did, as `done` has it. */
@@ -132,6 +137,9 @@ enum { SDD_OTHER = 0, SDD_CONTINUUM = 1, SDD_SPECTRAL_LINE = 2 };
  *   52 to 53  position code (Integer*2) */
 #define SDD_ABOUT 54
 
+/* The elements of the row that the calls of the link are lent: first and last record of each of 4,096 slots. */
+#define SDD_LINK_ROW 8192
+
 /* Stack that a call needs at most, in bytes: any call, and each. The tests measure it. */
 #define SDD_STACK (168 * 1024)
 #define SDD_STACK_OPEN (168 * 1024)
@@ -150,10 +158,13 @@ enum { SDD_OTHER = 0, SDD_CONTINUUM = 1, SDD_SPECTRAL_LINE = 2 };
 #define SDD_STACK_TO_OLD (168 * 1024)
 #define SDD_STACK_GAPS_ZERO (168 * 1024)
 #define SDD_STACK_FIND (1 * 1024)
+#define SDD_STACK_LINK_BEGIN (1 * 1024)
+#define SDD_STACK_LINK_TAKE (1 * 1024)
+#define SDD_STACK_LINK_FINISH (136 * 1024)
 
 /* Why a call was refused; {0, 0} where it was not. */
 typedef struct {
-  uint32_t number; /* 1 to 19 as above, 0: accepted */
+  uint32_t number; /* 1 to 20 as above, 0: accepted */
   uint32_t value;  /* the slot (6, 7, 8) or the rule (11), else 0 */
 } sdd_refusal;
 
@@ -257,6 +268,25 @@ typedef struct {
   uint64_t written; /* records written so far, this one included */
   sdd_job job;
 } sdd_stepped;
+
+/* The verdict on a file that comes in pieces, under way. It is a value: copy it, keep it, lend it to the next
+ * call together with the row as the last call left it. To drop it is to lend it no more; nothing needs to be
+ * freed. Its fields are the library's: a program lends them back as they were. A link made by hand is taken like
+ * any other, with any row: the calls do what these fields and the row say, and touch nothing outside the row. */
+typedef struct {
+  uint8_t  boot[32];  /* the file's first 32 bytes, as far as they have come; zeros behind them */
+  uint64_t length;    /* the file's length in bytes, as link_begin was given it */
+  uint64_t came;      /* how many bytes have come that count: never more than bootstrap and index take */
+  uint64_t index_end; /* N x L, the place at which the index ends; 0 while fewer than 32 bytes have come, and
+                         where they break a rule */
+} sdd_link;
+
+/* The link to lend to the next call; of zeros where link_begin was refused, and as it was lent where link_take
+ * was. */
+typedef struct {
+  sdd_refusal why;
+  sdd_link link;
+} sdd_linked;
 
 /* Judges the file and answers its sizes and its form.
  * Lent: the file, to look at. Refusals: open's own, 1 and then 3 to 8. */
@@ -417,6 +447,58 @@ sdd_answer sdd_gaps_zero(const uint8_t *file, size_t file_len);
  * enough. How many are needed is not known before: where it is 17, lend more.
  * Refusals: 1, 3, 4, 5, then 17 where out_len is less than 3 x finds. */
 sdd_listed sdd_find(const uint8_t *file, size_t file_len, uint64_t *out, size_t out_len);
+
+/* Begins the verdict on a file of which no more is held than the piece that has just come: its length is given
+ * first, then its bytes in pieces, then sdd_link_finish answers what sdd_open answers of the whole file. How the
+ * file is cut makes no difference, and pieces may be empty. A file of either form is judged.
+ *
+ * The row is the working room of all three calls, and nothing else is: the first and the last record of slot s
+ * are put together in its elements 2(s-1) and 2(s-1)+1. It is lent to each call as the last one left it. What it
+ * holds before the first piece makes no difference, so that it need not be cleared; this call neither reads nor
+ * writes its elements. A longer row is fine: elements past the first 8,192 are never touched.
+ *
+ *   uint32_t row[SDD_LINK_ROW];
+ *   sdd_link link = sdd_link_begin(length, row, SDD_LINK_ROW).link;
+ *   while ((piece_len = receive(piece)) > 0)
+ *     link = sdd_link_take(link, piece, piece_len, row, SDD_LINK_ROW).link;
+ *   sdd_opened verdict = sdd_link_finish(link, row, SDD_LINK_ROW);
+ *
+ * Lent: `row`, row_len elements. Answered: the link to lend to the next call.
+ * Refusals: 17 where row_len is less than 8,192. The link is then zeros, the verdict on a file of length 0. */
+sdd_linked sdd_link_begin(uint64_t length, uint32_t *row, size_t row_len);
+
+/* Takes the next piece: the bytes of the file that follow those of the pieces before it. Its first 32 bytes go
+ * into the link, those of the entries' first and last records into the row; every other byte of bootstrap and
+ * index is counted. Whatever comes after that is passed over and counts for nothing: bytes past the index, so all
+ * of the data section, and bytes past the length that was given; every byte where that length is below 512; and
+ * every byte behind the first 32 where these break one of 3, 4 and 5. A piece that is passed over costs no more
+ * the longer it is.
+ *
+ * Byte by byte, and so of a link made by hand too:
+ * - where `length` is 512 or more and `came` below 32, the byte is put at boot[came] and `came` goes up by one.
+ *   index_end becomes N x L where `came` is now 32 and `boot` breaks none of 3, 4 and 5 over `length`, else 0;
+ * - else, where `came` is below index_end, it is byte number `came` of the file, counted from 0, and `came` goes up
+ *   by one. Where the N, L, M and capacity that `boot` states are in their ranges, and it is a byte of the first or
+ *   the last record of slot s, 1 to capacity, it is shifted into that number's element from below: a current number
+ *   keeps the last four bytes that were shifted in, an old one the last two, as the 32-bit number of the same value;
+ * - else it is passed over.
+ *
+ * Lent: the link; the piece, to look at; `row`, of whose first 8,192 elements those are written whose numbers the
+ * piece has bytes of. Answered: the link to lend to the next call.
+ * Refusals: 17 where row_len is less than 8,192. The link is then the one that was lent, and the piece has not
+ * been taken: lend it again, with a row that is long enough. */
+sdd_linked sdd_link_take(sdd_link link, const uint8_t *piece, size_t piece_len, uint32_t *row,
+                         size_t row_len);
+
+/* Answers the verdict on the file, as far as the bytes that have come tell: where bootstrap and index have come,
+ * what sdd_open answers of all of it, with `room` by the length that was given. It may be asked at any time, as
+ * often as one likes, and changes nothing: after 20 the next piece is taken as if nothing had been asked. That the
+ * data section came is not asked, since open looks at none of it.
+ * Lent: the link, and the row to look at.
+ * Refusals: 17 where row_len is less than 8,192; then 1 where the length is below 512; then 20 where fewer than 32
+ * bytes have come; then 3, 4 and 5, over the length that was given; then 20 where fewer than N x L bytes have come;
+ * then 6, 7 and 8. */
+sdd_opened sdd_link_finish(sdd_link link, const uint32_t *row, size_t row_len);
 
 #ifdef __cplusplus
 }

@@ -167,7 +167,8 @@ static inline const char *sdd_sentence(sdd_refusal why) {
              "of L, with at most 4,096 slots, and N records must fit";
     case SDD_ANSWER_TOO_LONG:
       return "the answer does not fit into what was lent for it: lend three numbers for each "
-             "scan of a list or a search, N records for a conversion";
+             "scan of a list or a search, N records for a conversion, a row of 8,192 numbers "
+             "for a file that comes in pieces";
     case SDD_NOT_VERSION_ONE:
       return "the old file says that this scan is not of SDD version 1, so it is not read: "
              "show its records as they stand, or have the station convert it";
@@ -176,6 +177,9 @@ static inline const char *sdd_sentence(sdd_refusal why) {
              "records, has a scan that is not of SDD version 1, or has a number too large for "
              "the old form: list and check it to see which of these it is, and work on the "
              "file as it is";
+    case SDD_NOT_ALL_CAME:
+      return "too little of the file has come to judge it: send the rest, or the whole file "
+             "again from its first byte on";
     default:
       return "";
   }

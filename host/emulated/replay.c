@@ -20,7 +20,7 @@ int printf(const char *format, ...);
 void exit(int status);
 
 enum { PROT_NONE = 0, PROT_READ = 1, PROT_READ_WRITE = 3, MAP_PRIVATE = 2, MAP_ANONYMOUS = 32 };
-enum { CALLS = 16, LIST = 1, FIND = 15, UNTOUCHED = 0x5a };
+enum { CALLS = 19, LIST = 1, FIND = 15, UNTOUCHED = 0x5a };
 /* a file above this size is not compared whole after every call, but when the next one comes */
 #define LARGE ((size_t)1 << 20)
 /* a multiple of every page size there is, on whatever machine the emulator runs */
@@ -28,7 +28,7 @@ enum { CALLS = 16, LIST = 1, FIND = 15, UNTOUCHED = 0x5a };
 
 static const char *const NAMES[CALLS] = {"open", "list",  "entry", "show", "read",  "class",      "data",
                                          "blank", "save", "keep",  "clear", "step", "to_current", "to_old",
-                                         "gaps_zero", "find"};
+                                         "gaps_zero", "find", "link_begin", "link_take", "link_finish"};
 
 static void stop(const char *why) {
   printf("replay: %s\n", why);
@@ -107,6 +107,10 @@ static void put_opened(sdd_opened a) {
   PUT(a.capacity), PUT(a.room), PUT(a.version);
 }
 
+static void put_linked(sdd_linked a) {
+  PUT(a.why), PUT(a.link.length), PUT(a.link.came), PUT(a.link.index_end), PUT(a.link.boot);
+}
+
 static void put_span(sdd_span a) { PUT(a.why), PUT(a.from), PUT(a.to); }
 
 static void put_begun(sdd_begun a) {
@@ -136,8 +140,8 @@ static void put_entry(sdd_entry a) {
 
 /* ---- the calls */
 
-/* What is lent, and beside it the file and the second buffer as they should be. */
-static lent file, wanted, scan, about, out, second, second_wanted;
+/* What is lent, and beside it the file, the second buffer and the working row as they should be. */
+static lent file, wanted, scan, about, out, second, second_wanted, piece, working, working_wanted;
 
 static sdd_job read_job(void) {
   sdd_job job;
@@ -147,6 +151,13 @@ static sdd_job read_job(void) {
   memcpy(job.boot, bytes(32), 32);
   memcpy(job.about, bytes(54), 54);
   return job;
+}
+
+static sdd_link read_link(void) {
+  sdd_link link;
+  link.length = number(), link.came = number(), link.index_end = number();
+  memcpy(link.boot, bytes(32), 32);
+  return link;
 }
 
 /* Lends a row for so many bytes of elements, filled with what should stay where nothing is written. */
@@ -175,6 +186,19 @@ static void blank(void) {
   put_refusal(sdd_blank(file.at, file.len, n, l, m));
 }
 
+/* The working row as a call takes it. */
+static uint32_t *elements(void) { return (uint32_t *)working.at; }
+
+static size_t working_len(void) { return working.len / sizeof(uint32_t); }
+
+static void link_begin(void) { put_linked(sdd_link_begin(number(), elements(), working_len())); }
+
+static void link_take(void) {
+  put_linked(sdd_link_take(read_link(), piece.at, piece.len, elements(), working_len()));
+}
+
+static void link_finish(void) { put_opened(sdd_link_finish(read_link(), elements(), working_len())); }
+
 /* Makes the call and leaves its answer in the row. */
 static void make(int call) {
   row_len = 0;
@@ -195,6 +219,9 @@ static void make(int call) {
   case 13: put_refusal(sdd_to_old(file.at, file.len, second.at, second.len)); break;
   case 14: put_answer(sdd_gaps_zero(file.at, file.len)); break;
   case FIND: find(); break;
+  case 16: link_begin(); break;
+  case 17: link_take(); break;
+  case 18: link_finish(); break;
   default: stop("the file of cases has a call that is not known");
   }
 }
@@ -220,6 +247,18 @@ static int second_stands(void) {
   return memcmp(second.at, second_wanted.at, second.len) == 0;
 }
 
+/* Whether the working row has the expected elements where it was written, and is as it was elsewhere. */
+static int working_stands(void) {
+  size_t count;
+  for (count = number(); count > 0; count--) {
+    size_t at = number() * sizeof(uint32_t);
+    const uint8_t *element = bytes(sizeof(uint32_t));
+    if (at >= working_wanted.len) return 0;
+    memcpy(working_wanted.at + at, element, sizeof(uint32_t));
+  }
+  return memcmp(working.at, working_wanted.at, working.len) == 0;
+}
+
 /* One recorded call: whether answer and memory are as the model has them. */
 static int agrees(int call) {
   size_t len, writes;
@@ -235,6 +274,7 @@ static int agrees(int call) {
   if (wanted.len <= LARGE) same &= memcmp(file.at, wanted.at, wanted.len) == 0;
   same &= out_stands(call);
   same &= second_stands();
+  same &= working_stands();
   return same;
 }
 
@@ -267,11 +307,12 @@ static void copy(lent *to, size_t len) {
   memcpy(to->at, bytes(len), len);
 }
 
-static void new_second(size_t len) {
+/* Lends a copy, and keeps another one as it should be. */
+static void copy_twice(lent *to, lent *to_wanted, size_t len) {
   const uint8_t *from = next;
-  copy(&second, len);
+  copy(to, len);
   next = from;
-  copy(&second_wanted, len);
+  copy(to_wanted, len);
 }
 
 static void one_call(void) {
@@ -291,7 +332,9 @@ static void replay(void) {
     case 'P': patch(); break;
     case 'S': copy(&scan, number()); break;
     case 'A': copy(&about, 54); break;
-    case 'B': new_second(number()); break;
+    case 'B': copy_twice(&second, &second_wanted, number()); break;
+    case 'T': copy(&piece, number()); break;
+    case 'R': copy_twice(&working, &working_wanted, number() * sizeof(uint32_t)); break;
     case 'C': one_call(); break;
     case 'E': last_look(); return;
     default: stop("the file of cases is damaged");
@@ -306,7 +349,7 @@ int main(int count, char **words) {
   next = map_file(words[1]);
   replay();
   for (call = 0; call < CALLS; call++) {
-    printf("  %-10s %lu\n", NAMES[call], made[call]);
+    printf("  %-11s %lu\n", NAMES[call], made[call]);
     all += made[call];
   }
   printf("%lu of %lu calls agreed\n", agreed, all);

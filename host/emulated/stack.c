@@ -22,6 +22,9 @@ static uint8_t second[N * L];
 static uint64_t finds[3 * 4 * 4096];
 static sdd_listed found;
 static sdd_job job, clearing;
+static uint32_t row[SDD_LINK_ROW];
+static sdd_link begun, came;
+static sdd_opened judged;
 
 /* ---- a file with scans in rising or falling order, and a scan */
 
@@ -101,6 +104,16 @@ static void to_old(void) { sdd_to_old(file, LEN, second, N * L); }
 static void gaps_zero(void) { sdd_gaps_zero(file, LEN); }
 static void find(void) { found = sdd_find(file, LEN, finds, sizeof finds / sizeof *finds); }
 
+/* The file as one piece and as pieces of one byte, so that numbers are cut. */
+static void link_begin(void) { begun = sdd_link_begin(LEN, row, SDD_LINK_ROW).link; }
+static void link_take(void) {
+  size_t i;
+  came = begun;
+  for (i = 0; i < L + 2 * M; i++) came = sdd_link_take(came, file + i, 1, row, SDD_LINK_ROW).link;
+  came = sdd_link_take(came, file + i, LEN - i, row, SDD_LINK_ROW).link;
+}
+static void link_finish(void) { judged = sdd_link_finish(came, row, SDD_LINK_ROW); }
+
 static const struct {
   const char *name;
   void (*call)(void);
@@ -121,6 +134,9 @@ static const struct {
     {"to_old", to_old, SDD_STACK_TO_OLD},
     {"gaps_zero", gaps_zero, SDD_STACK_GAPS_ZERO},
     {"find", find, SDD_STACK_FIND},
+    {"link_begin", link_begin, SDD_STACK_LINK_BEGIN},
+    {"link_take", link_take, SDD_STACK_LINK_TAKE},
+    {"link_finish", link_finish, SDD_STACK_LINK_FINISH},
     {"blank", blank, SDD_STACK_BLANK},
 };
 
@@ -159,9 +175,10 @@ int main(void) {
       long bytes = depth(CALLS[i].call);
       int holds = bytes <= CALLS[i].most;
       wrong += !holds;
-      printf("  sdd_%-11s%8ld bytes of stack, at most %ld%s\n", CALLS[i].name, bytes, CALLS[i].most,
+      printf("  sdd_%-12s%8ld bytes of stack, at most %ld%s\n", CALLS[i].name, bytes, CALLS[i].most,
              holds ? "" : ": TOO MUCH");
     }
   }
-  return wrong != 0 || job.written != 130 || clearing.written != 3 + SCAN / L || found.scans < USED;
+  return wrong != 0 || job.written != 130 || clearing.written != 3 + SCAN / L || found.scans < USED ||
+         judged.why.number != 0 || judged.room != ROOM;
 }

@@ -13,6 +13,7 @@ pub mod Fields
 pub mod Telling
 pub mod Zeroing
 pub mod Finding
+pub mod Linked
 pub mod Unchanged
 pub mod Filled
 pub mod Old

@@ -17,11 +17,11 @@ use Rattle.paper.specs.declared.sizes.Run.{Run}
 use Rattle.paper.specs.declared.refusal.Refusal.{Refusal}
 use Rattle.paper.specs.declared.refusal.Refusal.the-variants.{TooShort}
 use Rattle.paper.specs.Refusals.{Says, refuses}
-use Rattle.paper.specs.Sizes.{sizesOf, versionOf, capacityOf, bytesOf, tooShort, wordChecks, bootChecks}
+use Rattle.paper.specs.Sizes.{sizesOf, capacityOf, bytesOf, sizeChecks, wordChecks, bootChecks, Ranged}
 use Rattle.paper.specs.Index.{runOf, shares, sharer, badAt, aboveAt, sharedAt, lowest, indexChecks, openChecks, changeChecks, Lies, Laid, Booted, Sound}
 use Rattle.paper.proofs.Opening.{range-facts, facts-range, good-lies, lies-good, above-facts, facts-above, shared-facts, shares-common, common-shares, share-facts}
 use Rattle.paper.proofs.Answers.{refusal-only, number-some}
-use Rattle.demands.specs.Causes.{Row, end, asks, asks-each, only-if, amiss, passed, named, none, Given, Met, Shared, IndexRow, BootRow, WordRow, OpenRow, ChangeRow}
+use Rattle.demands.specs.Causes.{Row, end, asks, asks-each, only-if, amiss, passed, named, none, Given, Met, Shared, IndexRow, SizeRow, BootRow, WordRow, OpenRow, ChangeRow}
 use Rattle.demands.specs.Truth.{Told}
 
 -- the checks say what the row says
@@ -61,6 +61,10 @@ one {t} {q} {cs} {Good} {row} bad good k =
     clear-go : (b : Bool) → t ≡ b → fired (check b q ∷ cs) ≡ clear → Met (asks Good q row)
     clear-go true h e = absurd (clear≢fires (fires q) q e refl)
     clear-go false h e = (good h, k (good h) .clear-so e)
+
+-- a test of a number that is to be no lower than another
+pub at-least : {q : Refusal} {cs : List (Check Refusal)} {row : Row} (n low : ℕ) → (low ≤ n → Meets cs row) → Meets (check (ltb n low) q ∷ cs) (asks (low ≤ n) q row)
+at-least n low k = one (λ t h. omega (arith, ltb-true n low t)) (ltb-false n low) k
 
 -- a test of each number from 1 to n
 pub each : {q : ℕ → Refusal} {cs : List (Check Refusal)} {Good : ℕ → Type 0} {row : Row} (p : ℕ → Bool) (n : ℕ)
@@ -185,29 +189,28 @@ module _ (z : Sizes) (run : ℕ → Run) where
 
 -- ---- 1 to 8
 
+pub size-row : (len : ℕ) (z : Sizes) {ds : List (Check Refusal)} {row : Row} → (z .version ≤ 1 → Ranged z → bytesOf z ≤ len → Meets ds row)
+    → Meets (sizeChecks len z ++ ds) (SizeRow len z row)
+size-row len z k =
+    at-least 1 (z .version)
+    (λ known.
+    one (λ t h. true≢false (facts-range z h) (not-true _ t)) (λ t. range-facts z (not-false _ t)) (λ range. at-least len (bytesOf z) (k known range)))
+
 boot-row : (f : List ℕ) {ds : List (Check Refusal)} {row : Row} → 512 ≤ length f → (Booted f (sizesOf f) → Meets ds row) → Meets (wordChecks f ++ ds) (BootRow f row)
 boot-row f long k =
-    one (λ t h. omega (arith, ltb-true 1 (versionOf f) t)) (λ t. omega (arith, ltb-false 1 (versionOf f) t))
-    (λ known.
-    one (λ t h. true≢false (facts-range (sizesOf f) h) (not-true _ t)) (λ t. range-facts (sizesOf f) (not-false _ t))
-    (λ range.
-    one (λ t h. omega (arith, ltb-true (length f) (bytesOf (sizesOf f)) t)) (λ t. omega (arith, ltb-false (length f) (bytesOf (sizesOf f)) t))
-    (λ held. k (record { reads = refl; long = long; version = known; ranged = range; held = held }))))
+    size-row (length f) (sizesOf f) (λ known range held. k (record { reads = refl; long = long; version = known; ranged = range; held = held }))
 
 word-row : (f : List ℕ) {ds : List (Check Refusal)} {row : Row} → 512 ≤ length f → (Sound f (sizesOf f) → Meets ds row)
     → Meets ((wordChecks f ++ indexChecks (sizesOf f) (runOf f (sizesOf f))) ++ ds) (WordRow f row)
 word-row f long k =
     boot-row f long (λ booted. index-row (sizesOf f) (runOf f (sizesOf f)) (λ laid. k (record { booted = booted; laid = laid })))
 
-long-row : (f : List ℕ) {cs : List (Check Refusal)} {row : Row} → (512 ≤ length f → Meets cs row) → Meets (tooShort f ∷ cs) (asks (512 ≤ length f) TooShort row)
-long-row f k = one (λ t h. omega (arith, ltb-true (length f) 512 t)) (λ t. omega (arith, ltb-false (length f) 512 t)) k
-
 -- a call that asks for the bootstrap alone
 pub look-row : (f : List ℕ) {ds : List (Check Refusal)} {row : Row} → Meets ds row → Meets (bootChecks f ++ ds) (asks (512 ≤ length f) TooShort (BootRow f row))
-look-row f k = long-row f (λ long. boot-row f long (λ booted. k))
+look-row f k = at-least (length f) 512 (λ long. boot-row f long (λ booted. k))
 
 pub open-row : (f : List ℕ) {ds : List (Check Refusal)} {row : Row} → (Sound f (sizesOf f) → Meets ds row) → Meets (openChecks f ++ ds) (OpenRow f row)
-open-row f k = long-row f (λ long. word-row f long k)
+open-row f k = at-least (length f) 512 (λ long. word-row f long k)
 
 pub change-row : (f : List ℕ) {ds : List (Check Refusal)} {row : Row} → (Sound f (sizesOf f) → Meets ds row) → Meets (changeChecks f ++ ds) (ChangeRow f row)
-change-row f k = long-row f (λ long. one (λ t h. h (eqb-true _ _ t)) (λ t. eqb-false _ _ t) (λ new. word-row f long k))
+change-row f k = at-least (length f) 512 (λ long. one (λ t h. h (eqb-true _ _ t)) (λ t. eqb-false _ _ t) (λ new. word-row f long k))

@@ -29,9 +29,10 @@ use Rattle.paper.specs.declared.job.Job.{Job}
 use Rattle.paper.specs.declared.job.Begun.{Begun}
 use Rattle.paper.specs.declared.job.Step.{Step}
 use Rattle.paper.specs.declared.job.Step.the-variants as step
+use Rattle.paper.specs.declared.link.Link.{Link}
 use Rattle.paper.specs.Refusals.{openedSays, listedSays, spanSays, takenSays, askedSays, stepSays}
 use Rattle.paper.specs.Sizes.{sizesOf, versionOf, capacityOf, homeOf, startOf, roomOf}
-use Rattle.paper.specs.Index.{runOf, empty, shownOf, openChecks, openOf, Lies, Sound}
+use Rattle.paper.specs.Index.{runOf, rowRun, empty, shownOf, openChecks, openOf, Lies, Sound}
 use Rattle.paper.specs.Scan.{startsOf, classesOf, headlen, datalen, classIn, ruledOf, ofRuled, classOf, dataOf, Rule}
 use Rattle.paper.specs.Look.{listOf, listedOf, noSlot, heldChecks, slotChecks, otherScan, readChecks, foundOf, showOf, readOf, InIndex}
 use Rattle.paper.specs.Store.{blankSizes, blankTests, blankChecks, blankOf, recordsFor, freeAt, freePlace, emptySlot, refused, placeFor, keepSlot, reasonOf, scanChecks, saveOf, keepOf, clearOf, totalOf}
@@ -39,6 +40,7 @@ use Rattle.paper.specs.Gaps.{gapsZero, gapsOf}
 use Rattle.paper.specs.Find.{findOf, reportOf}
 use Rattle.paper.specs.Step.{agrees, hasLeft, wroteOf, stands, confirmed, confirmOf, stepAnswer, Agreeing, Standing}
 use Rattle.paper.specs.Convert.{otherMagic, wideRun, convertChecks, convertOf}
+use Rattle.paper.specs.Link.{rowShort, finishChecks, beginOf, takeOf, finishOf}
 use Rattle.paper.proofs.Converting.{magic-facts, facts-magic, narrow-facts, facts-narrow, going-facts, facts-going}
 use Rattle.paper.proofs.Forms.{one-facts, facts-one}
 use Rattle.paper.proofs.Opening.{shaped-facts, facts-shaped, empty-facts, facts-empty, full-facts, facts-full, then-refused, then-opens, open-reads}
@@ -48,9 +50,9 @@ use Rattle.paper.proofs.Writes.{some-record}
 use Rattle.paper.proofs.Agreement.{agreed, agreeing, stood, standing}
 use Rattle.paper.proofs.Free.{FreeAt, facts-free, place-free, free-nobody}
 use Rattle.paper.proofs.Begins.{slot-facts, facts-slot}
-use Rattle.demands.specs.Causes.{Row, end, asks, only-if, OpenRow, HeldRow, SlotRow, RuleRow, VersionOne, ReadRow, FreeRun, Place, ScanRow, Vacant, StepRow, ConvertRow, BlankRow}
+use Rattle.demands.specs.Causes.{Row, end, asks, only-if, OpenRow, HeldRow, SlotRow, RuleRow, VersionOne, ReadRow, FreeRun, Place, ScanRow, Vacant, StepRow, ConvertRow, LentRow, FinishRow, BlankRow}
 use Rattle.demands.specs.Truth.{Told, RefusedExactly}
-use Rattle.demands.proofs.Ordered.{Meets, one, each, nothing, asked-so, not-asked, told, look-row, open-row, change-row}
+use Rattle.demands.proofs.Ordered.{Meets, one, at-least, each, nothing, asked-so, not-asked, told, index-row, size-row, look-row, open-row, change-row}
 
 -- ---- 9, 10, 11, 13
 
@@ -154,7 +156,7 @@ module _ (f : List ℕ) where
 
 -- 17 of three numbers for each of so many
 room-row : (out : List ℕ) (n : ℕ) → Meets (check (ltb (length out) (3 * n)) TooSmall ∷ []) (asks (3 * n ≤ length out) TooSmall end)
-room-row out n = one (λ t h. omega (arith, ltb-true (length out) (3 * n) t)) (λ t. omega (arith, ltb-false (length out) (3 * n) t)) (λ h. nothing)
+room-row out n = at-least (length out) (3 * n) (λ h. nothing)
 
 -- 16
 blank-row : (f : List ℕ) (n l m : ℕ) → Meets (blankChecks f (blankSizes n l m)) (BlankRow f n l m)
@@ -172,7 +174,7 @@ convert-row v f out =
     let z : Sizes = sizesOf f in
     open-row f
     (λ S.
-    one (λ t h. omega (arith, ltb-true (length out) (z .n * z .l) t)) (λ t. ltb-false (length out) (z .n * z .l) t)
+    at-least (length out) (z .n * z .l)
     (λ fits.
     one (λ t h. h (eqb-true (z .version) v t)) (λ t. eqb-false (z .version) v t)
     (λ other.
@@ -190,6 +192,21 @@ convert-row v f out =
     (λ t h. true≢false t (facts-going v _ (λ e. none-test (wideRun (runOf f z)) (z .u) (λ s a b m. true≢false m (facts-narrow (runOf f z) s (h e s a b))))))
     (λ t e s a b. narrow-facts (runOf f z) s (not-so (test-none (wideRun (runOf f z)) (z .u) (going-facts v _ t e) s a b)))
     (λ narrow. nothing))))))))
+
+-- 17 of a row for a link, and what finish asks for
+lent-row : (row : List ℕ) → Meets (rowShort row ∷ []) (LentRow row end)
+lent-row row = at-least (length row) 8192 (λ h. nothing)
+
+finish-row : (k : Link) (row : List ℕ) → Meets (finishChecks k row) (FinishRow k row)
+finish-row k row =
+    let z : Sizes = sizesOf (k .boot) in
+    at-least (length row) 8192
+    (λ enough.
+    at-least (k .span) 512
+    (λ long.
+    at-least (k .came) 32
+    (λ begins.
+    size-row (k .span) z (λ known range held. at-least (k .came) (z .n * z .l) (λ whole. index-row z (rowRun row) (λ laid. nothing))))))
 
 -- ---- a scan's classes and data
 
@@ -281,7 +298,7 @@ module _ (f scan : List ℕ) (j : Job) where
 -- ---- every call
 
 pub refused-exactly : RefusedExactly
-unfolding openOf gapsOf listedOf reportOf foundOf showOf readOf classOf dataOf saveOf keepOf clearOf stepAnswer blankOf convertOf
+unfolding openOf gapsOf listedOf reportOf foundOf showOf readOf classOf dataOf saveOf keepOf clearOf stepAnswer blankOf convertOf beginOf takeOf finishOf
 refused-exactly =
     record {
       open-file = λ f. told openedSays opened.Refused (opened.Opens (sizesOf f)) (λ r. refl) refl (open-row f (λ S. nothing));
@@ -301,4 +318,7 @@ refused-exactly =
       step-job = λ f scan j. step-told f scan j (agrees f scan j) (hasLeft (sizesOf f) j) refl refl;
       blank = λ f n l m. told takenSays taken.Refused taken.Accepted (λ r. refl) refl (blank-row f n l m);
       convert = λ v f out. told takenSays taken.Refused taken.Accepted (λ r. refl) refl (convert-row v f out);
+      link-begin = λ len row. told takenSays taken.Refused taken.Accepted (λ r. refl) refl (lent-row row);
+      link-take = λ k p row. told takenSays taken.Refused taken.Accepted (λ r. refl) refl (lent-row row);
+      link-finish = λ k row. told openedSays opened.Refused (opened.Opens (sizesOf (k .boot))) (λ r. refl) refl (finish-row k row);
     }

@@ -9,13 +9,16 @@ use Rattle.paper.specs.declared.entry.Entry.{Entry}
 use Rattle.paper.specs.declared.job.Job.{Job}
 use Rattle.paper.specs.declared.job.Begun.{Begun}
 use Rattle.paper.specs.declared.job.Step.{Step}
+use Rattle.paper.specs.declared.link.Link.{Link}
+use Rattle.paper.specs.declared.link.Linked.{Linked}
 use Rattle.paper.specs.Refusals.{openedSays, listedSays, spanSays, takenSays, askedSays, stepSays}
 use Rattle.paper.specs.Scan.{classOf, dataOf}
 use Rattle.paper.specs.Look.{listedOf, listedOut, showOf, readOf}
 use Rattle.paper.specs.Store.{saveOf, keepOf, clearOf}
 use Rattle.paper.specs.Find.{reportOf, reportOut}
+use Rattle.paper.specs.Link.{beginOf, takeOf}
 use Rattle.paper.proofs.Answers.{opened-only, listed-only, span-only, taken-only, asked-only, step-only}
-use Rattle.demands.specs.OneOutcome.{Only, Outcome, Begins, OneOutcome}
+use Rattle.demands.specs.OneOutcome.{Only, Outcome, Begins, Links, OneOutcome}
 
 -- two that are said alike
 alike : {A B : Type 0} (says : A → B) → ((a b : A) → says a ≡ says b → a ≡ b) → (x : B) (a b : A) → says a ≡ x → says b ≡ x → a ≡ b
@@ -29,6 +32,12 @@ begin-one x a b p q =
     let e : a .answer ≡ b .answer = alike takenSays taken-only (takenSays (x .answer)) (a .answer) (b .answer) (p .0) (q .0) in
     let h : a .job ≡ b .job = p .1 ∙ sym (q .1) in
     ap (λ (t : Taken). record { answer = t; job = a .job }) e ∙ ap (λ (j : Job). record { answer = b .answer; job = j }) h
+
+link-one : (x : Linked) → Only (Links x)
+link-one x a b p q =
+    let e : a .answer ≡ b .answer = alike takenSays taken-only (takenSays (x .answer)) (a .answer) (b .answer) (p .0) (q .0) in
+    let h : a .link ≡ b .link = p .1 ∙ sym (q .1) in
+    ap (λ (t : Taken). record { answer = t; link = a .link }) e ∙ ap (λ (k : Link). record { answer = b .answer; link = k }) h
 
 lent-same : {A : Type 0} (a b : Outcome A) → a .answer ≡ b .answer → a .lent ≡ b .lent → a ≡ b
 lent-same {A} a b e h = ap (λ (t : A). record { answer = t; lent = a .lent }) e ∙ ap (λ (l : List ℕ). record { answer = b .answer; lent = l }) h
@@ -67,4 +76,7 @@ one-outcome =
           lent-same a b s (p .2 ∙ sym (q .2));
       blank = λ f n l m a b p q. lent-same a b (alike takenSays taken-only _ (a .answer) (b .answer) (p .0) (q .0)) (p .1 ∙ sym (q .1));
       convert = λ v f out a b p q. lent-same a b (alike takenSays taken-only _ (a .answer) (b .answer) (p .0) (q .0)) (p .1 ∙ sym (q .1));
+      link-begin = λ len row. link-one (beginOf len row);
+      link-take = λ k p row a b h i. lent-same a b (link-one (takeOf k p row) (a .answer) (b .answer) (h .0) (i .0)) (h .1 ∙ sym (i .1));
+      link-finish = λ k row. alike openedSays opened-only _;
     }

@@ -2,7 +2,7 @@
 use Prim.Native.Nat.{ℕ, _+_, _≤_}
 use mathlib.Core.Path.{_≡_, refl, sym, _∙_, ap, subst}
 use mathlib.Core.Bool.{Bool, true, false, cond}
-use mathlib.Core.List.{List, _∷_, _++_}
+use mathlib.Core.List.{List, [], _∷_, _++_}
 use native.Mathlib.Omega.{arith}
 use borrow.Author.Tests.{ltb-false}
 use lib.Dec.{eqb}
@@ -10,7 +10,7 @@ use lib.ListN.{length}
 use Rattle.lent.specs.Checks.{Check, check, Fired, clear, fires, fired, answer, judge}
 use Rattle.lent.proofs.Checks.{judge-fires, judge-refused}
 use Rattle.paper.specs.declared.refusal.Refusal.{Refusal}
-use Rattle.paper.specs.declared.refusal.Refusal.the-variants.{TooShort, OldForm, UnknownForm, OutOfRange, PastEnd, BadEntry, AboveUse, SharedRecord, NoSuchSlot, EmptySlot, BadScan, NoEmptySlot, NoRoom, Disagrees, Differs, BadBlank, TooSmall, NotVersionOne, NotConvertible}
+use Rattle.paper.specs.declared.refusal.Refusal.the-variants.{TooShort, OldForm, UnknownForm, OutOfRange, PastEnd, BadEntry, AboveUse, SharedRecord, NoSuchSlot, EmptySlot, BadScan, NoEmptySlot, NoRoom, Disagrees, Differs, BadBlank, TooSmall, NotVersionOne, NotConvertible, NotAllCame}
 use Rattle.paper.specs.declared.answer.Listed.the-variants as listed
 use Rattle.paper.specs.declared.answer.Taken.{Taken}
 use Rattle.paper.specs.declared.answer.Taken.the-variants as taken
@@ -29,7 +29,9 @@ use Rattle.paper.specs.Step.{agrees, hasLeft, writeAt, confirmOf, stepFile, ste
 use Rattle.paper.proofs.Agreement.{disagreeing, file-refused, job-refused, answer-refused, step-past, job-past}
 use Rattle.paper.specs.Find.{findOf, findChecks, reportOf, reportOut}
 use Rattle.paper.specs.Convert.{convertChecks, convertOf, convertedOut}
-use Rattle.demands.specs.Untouched.{ZeroJob, ZeroEntry, Untouched}
+use Rattle.paper.specs.Link.{freshLink, tookLink, tookRow, rowShort, linkAnswer, beginOf, takeOf, takeRow}
+use Rattle.paper.proofs.Linking.{finish-short}
+use Rattle.demands.specs.Untouched.{ZeroJob, ZeroLink, ZeroEntry, Untouched}
 
 -- ---- which check fired
 
@@ -44,6 +46,9 @@ module _ {A : Type 0} (refuse : Refusal → A) (says : A → Taken) (a : A) (cs 
         where
           same : (s r : Refusal) → taken.Refused s ≡ taken.Refused r → s ≡ r
           same s r e = cc
+
+accepted-fires : (cs : List (Check Refusal)) (r : Refusal) → judge taken.Refused cs taken.Accepted ≡ taken.Refused r → fired cs ≡ fires r
+accepted-fires cs r e = taken-fires taken.Refused (λ x. x) taken.Accepted cs (λ q. refl) refl r e
 
 begun-fires : (cs : List (Check Refusal)) (j : Job) (r : Refusal) → judge refused cs (accepted j) .answer ≡ taken.Refused r → fired cs ≡ fires r
 begun-fires cs j r e = taken-fires refused (λ (b : Begun). b .answer) (accepted j) cs (λ q. refl) refl r e
@@ -61,6 +66,9 @@ listed-fires cs n r e = judge-refused listed.Refused cs (listed.Scans n) r liste
 
 zero-job : ZeroJob noJob
 zero-job = record { saves = refl; slot = refl; size = refl; span = refl; first = refl; written = refl; lowers = refl; old = refl; many = refl; boot = refl; about = refl }
+
+zero-link : ZeroLink (freshLink 0)
+zero-link = record { span = refl; came = refl; ends = refl; boot = refl }
 
 zero-entry : ZeroEntry noEntry
 zero-entry =
@@ -86,6 +94,10 @@ zero-entry =
 begun-none : (cs : List (Check Refusal)) (j : Job) (r : Refusal) → judge refused cs (accepted j) .answer ≡ taken.Refused r → ZeroJob (judge refused cs (accepted j) .job)
 begun-none cs j r e = subst (λ (b : Begun). ZeroJob (b .job)) (sym (judge-fires refused cs (accepted j) r (begun-fires cs j r e))) zero-job
 
+-- a call that is lent too short a row leaves what it would have changed
+lent-kept : {A : Type 0} (row : List ℕ) (r : Refusal) → linkAnswer row ≡ taken.Refused r → (old new : A) → judge (λ (q : Refusal). old) (rowShort row ∷ []) new ≡ old
+lent-kept row r e old new = judge-fires (λ (q : Refusal). old) (rowShort row ∷ []) new r (accepted-fires (rowShort row ∷ []) r e)
+
 step-kept : (f scan : List ℕ) (j : Job) (r : Refusal) (a left : Bool) → agrees f scan j ≡ a → hasLeft (sizesOf f) j ≡ left
     → cond a (cond left (step.Wrote (writeAt f (sizesOf f) scan j .record-no) (j .written + 1)) (confirmOf f scan j (openOf f))) (step.Refused Disagrees) ≡ step.Refused r
     → (stepFile f scan j ≡ f) × (stepJob f scan j ≡ j)
@@ -95,7 +107,7 @@ step-kept f scan j r true false p q e =
     let h : totalOf (sizesOf f) j ≤ j .written = ltb-false (j .written) (totalOf (sizesOf f) j) q in
     (step-past f scan j (sizesOf f) p refl h, job-past f scan j (sizesOf f) p refl h)
 
-numbered : (r : Refusal) → (1 ≤ numberOf r) × (numberOf r ≤ 19)
+numbered : (r : Refusal) → (1 ≤ numberOf r) × (numberOf r ≤ 20)
 numbered TooShort = (omega arith, omega arith)
 numbered OldForm = (omega arith, omega arith)
 numbered UnknownForm = (omega arith, omega arith)
@@ -115,19 +127,17 @@ numbered BadBlank = (omega arith, omega arith)
 numbered TooSmall = (omega arith, omega arith)
 numbered NotVersionOne = (omega arith, omega arith)
 numbered NotConvertible = (omega arith, omega arith)
+numbered NotAllCame = (omega arith, omega arith)
 
 pub untouched : Untouched
-unfolding convertOf convertedOut blankOf blankFile listedOf listedOut reportOf reportOut foundOf saveOf keepOf clearOf stepAnswer
+unfolding convertOf convertedOut blankOf blankFile listedOf listedOut reportOf reportOut foundOf saveOf keepOf clearOf stepAnswer beginOf takeOf takeRow
 untouched =
     record {
       blank = λ f n l m r e.
-          judge-fires (λ (r : Refusal). f) (blankChecks f (blankSizes n l m)) _ r
-          (taken-fires taken.Refused (λ x. x) taken.Accepted (blankChecks f (blankSizes n l m)) (λ q. refl) refl r e);
+          judge-fires (λ (r : Refusal). f) (blankChecks f (blankSizes n l m)) _ r (accepted-fires (blankChecks f (blankSizes n l m)) r e);
       list = λ f out r e. judge-fires (λ (r : Refusal). out) (listChecks f out) _ r (listed-fires (listChecks f out) (length (listOf f)) r e);
       find = λ f out r e. judge-fires (λ (r : Refusal). out) (findChecks f out) _ r (listed-fires (findChecks f out) (length (findOf f (sizesOf f))) r e);
-      convert = λ v f out r e.
-          judge-fires (λ (r : Refusal). out) (convertChecks v f out) _ r
-          (taken-fires taken.Refused (λ x. x) taken.Accepted (convertChecks v f out) (λ q. refl) refl r e);
+      convert = λ v f out r e. judge-fires (λ (r : Refusal). out) (convertChecks v f out) _ r (accepted-fires (convertChecks v f out) r e);
       step-job = λ f scan j r e. step-kept f scan j r (agrees f scan j) (hasLeft (sizesOf f) j) refl refl e;
       save-scan = λ f slot scan about r e.
           begun-none (changeChecks f ++ (noSlot (sizesOf f) slot ∷ scanChecks f scan)) (saveJob f slot scan about) r e;
@@ -135,6 +145,9 @@ untouched =
           begun-none (changeChecks f ++ (check (eqb (keepSlot f) 0) NoEmptySlot ∷ scanChecks f scan)) (saveJob f (keepSlot f) scan about) r e;
       clear-slot = λ f slot r e. begun-none (changeChecks f ++ heldChecks f slot) (clearJob f slot) r e;
       no-job = λ f scan j h. answer-refused f scan j (disagreeing f scan j (λ a. omega (arith, a .booted .long, a .span, h .span)));
+      link-begin = λ len row r e. subst ZeroLink (sym (lent-kept row r e (freshLink 0) (freshLink len))) zero-link;
+      link-take = λ k p row r e. (lent-kept row r e k (tookLink k p), lent-kept row r e row (tookRow k p row));
+      no-link = λ k row h enough. finish-short k row enough (omega (arith, h .span));
       entry = λ f s r e.
           subst (λ (x : Found). ZeroEntry (x .entry))
           (sym (judge-fires _ (slotChecks f s) _ r (taken-fires _ (λ (x : Found). x .answer) _ (slotChecks f s) (λ q. refl) refl r e))) zero-entry;

@@ -8,10 +8,11 @@ use Rattle.lent.specs.Number.{be16}
 use Rattle.paper.specs.declared.sizes.Sizes.{Sizes}
 use Rattle.paper.specs.declared.sizes.Run.{Run}
 use Rattle.paper.specs.declared.refusal.Refusal.{Refusal}
-use Rattle.paper.specs.declared.refusal.Refusal.the-variants.{TooShort, OldForm, UnknownForm, OutOfRange, PastEnd, BadEntry, AboveUse, SharedRecord, NoSuchSlot, EmptySlot, BadScan, NoEmptySlot, NoRoom, Disagrees, Differs, BadBlank, TooSmall, NotVersionOne, NotConvertible}
+use Rattle.paper.specs.declared.refusal.Refusal.the-variants.{TooShort, OldForm, UnknownForm, OutOfRange, PastEnd, BadEntry, AboveUse, SharedRecord, NoSuchSlot, EmptySlot, BadScan, NoEmptySlot, NoRoom, Disagrees, Differs, BadBlank, TooSmall, NotVersionOne, NotConvertible, NotAllCame}
 use Rattle.paper.specs.declared.job.Job.{Job}
+use Rattle.paper.specs.declared.link.Link.{Link}
 use Rattle.paper.specs.Sizes.{sizesOf, versionOf, capacityOf, homeOf, roomOf, bytesOf, Ranged}
-use Rattle.paper.specs.Index.{runOf, Full, shownOf, Lies}
+use Rattle.paper.specs.Index.{runOf, rowRun, Full, shownOf, Lies}
 use Rattle.paper.specs.Scan.{Rule}
 use Rattle.paper.specs.Look.{listOf, InIndex}
 use Rattle.paper.specs.Store.{blankSizes, recordsFor, totalOf, Blankable}
@@ -78,9 +79,12 @@ IndexRow z run row =
     (asks-each (λ s. z .u < s → run s .first + run s .last ≡ 0) (capacityOf z) AboveUse
     (asks-each (λ s. Shared run s → ⊥) (z .u) SharedRecord row))
 
--- 3 to 5, of either form
+-- 3 to 5, of either form, over the length and the sizes that the bootstrap states
+abbrev pub SizeRow : ℕ → Sizes → Row → Row
+SizeRow len z row = asks (z .version ≤ 1) UnknownForm (asks (Ranged z) OutOfRange (asks (bytesOf z ≤ len) PastEnd row))
+
 abbrev pub BootRow : List ℕ → Row → Row
-BootRow f row = asks (versionOf f ≤ 1) UnknownForm (asks (Ranged (sizesOf f)) OutOfRange (asks (bytesOf (sizesOf f) ≤ length f) PastEnd row))
+BootRow f row = SizeRow (length f) (sizesOf f) row
 
 -- 3 to 8
 abbrev pub WordRow : List ℕ → Row → Row
@@ -173,6 +177,21 @@ FormRow v f =
 
 abbrev pub ConvertRow : ℕ → List ℕ → List ℕ → Row
 ConvertRow v f out = OpenRow f (asks (sizesOf f .n * sizesOf f .l ≤ length out) TooSmall (FormRow v f))
+
+-- 02, 2026-07: "17 at any call lent a shorter row", and begin and take ask for nothing else
+abbrev pub LentRow : List ℕ → Row → Row
+LentRow lent row = asks (8192 ≤ length lent) TooSmall row
+
+-- what is asked of the index: "fewer than N x L came: 20; then 6 to 8"
+abbrev pub CameRow : Link → Sizes → (ℕ → Run) → Row
+CameRow k z run = asks (z .n * z .l ≤ k .came) NotAllCame (IndexRow z run end)
+
+-- "Finish: 17; length < 512: 1; fewer than 32 bytes came: 20; the bootstrap's own (3, 4, 5, over the given length)", and then the index
+abbrev pub FinishRow : Link → List ℕ → Row
+FinishRow k lent =
+    LentRow lent
+    (asks (512 ≤ k .span) TooShort
+    (asks (32 ≤ k .came) NotAllCame (SizeRow (k .span) (sizesOf (k .boot)) (CameRow k (sizesOf (k .boot)) (rowRun lent)))))
 
 -- 16
 abbrev pub BlankRow : List ℕ → ℕ → ℕ → ℕ → Row

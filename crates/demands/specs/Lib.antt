@@ -3,6 +3,7 @@ pub mod Survival
 pub mod Used
 pub mod Gaps
 pub mod Find
+pub mod Link
 pub mod Causes
 pub mod Begun
 pub mod Truth

@@ -13,6 +13,8 @@ use Rattle.paper.specs.declared.entry.Found.{Found}
 use Rattle.paper.specs.declared.job.Job.{Job}
 use Rattle.paper.specs.declared.job.Begun.{Begun}
 use Rattle.paper.specs.declared.job.Stepped.{Stepped}
+use Rattle.paper.specs.declared.link.Link.{Link}
+use Rattle.paper.specs.declared.link.Linked.{Linked}
 use Rattle.paper.specs.Refusals.{openedSays, listedSays, spanSays, takenSays, askedSays, stepSays}
 use Rattle.paper.specs.Index.{openOf}
 use Rattle.paper.specs.Scan.{partOf, spanPlace, classOf, dataOf}
@@ -22,6 +24,7 @@ use Rattle.paper.specs.Step.{stepFile, stepJob, stepAnswer}
 use Rattle.paper.specs.Gaps.{gapsOf}
 use Rattle.paper.specs.Find.{reportOf, reportOut}
 use Rattle.paper.specs.Convert.{convertOf, convertedOut}
+use Rattle.paper.specs.Link.{beginOf, takeOf, takeRow, finishOf}
 
 -- at most one is allowed
 abbrev pub Only : {A : Type 0} → (A → Type 0) → Type 0
@@ -40,6 +43,10 @@ pub record Slice : Type 0 where
 -- the answer of a beginning and its job
 abbrev pub Begins : Begun → Begun → Type 0
 Begins is x = (takenSays (x .answer) ≡ takenSays (is .answer)) × (x .job ≡ is .job)
+
+-- the answer of a link's begin or take and the link
+abbrev pub Links : Linked → Linked → Type 0
+Links is x = (takenSays (x .answer) ≡ takenSays (is .answer)) × (x .link ≡ is .link)
 
 pub record OneOutcome : Type 0 where
   pub open-file : (f : List ℕ) → Only (λ (x : Opened). openedSays x ≡ openedSays (openOf f))
@@ -66,3 +73,7 @@ pub record OneOutcome : Type 0 where
       → Only (λ (x : Outcome Taken). (takenSays (x .answer) ≡ takenSays (blankOf f n l m)) × (x .lent ≡ blankFile f n l m))
   pub convert : (v : ℕ) (f out : List ℕ)
       → Only (λ (x : Outcome Taken). (takenSays (x .answer) ≡ takenSays (convertOf v f out)) × (x .lent ≡ convertedOut v f out))
+  -- 2026-07: "what each call leaves in link and row is an equation"; begin writes nothing to the row, and finish "changes nothing"
+  pub link-begin : (len : ℕ) (row : List ℕ) → Only (Links (beginOf len row))
+  pub link-take : (k : Link) (p row : List ℕ) → Only (λ (x : Outcome Linked). Links (takeOf k p row) (x .answer) × (x .lent ≡ takeRow k p row))
+  pub link-finish : (k : Link) (row : List ℕ) → Only (λ (x : Opened). openedSays x ≡ openedSays (finishOf k row))

@@ -13,6 +13,7 @@ use Rattle.paper.specs.declared.answer.Opened.the-variants as opened
 use Rattle.paper.specs.declared.answer.Ruled.the-variants.{Keeps}
 use Rattle.paper.specs.declared.job.Job.{Job}
 use Rattle.paper.specs.declared.job.Step.the-variants as step
+use Rattle.paper.specs.declared.link.Link.{Link}
 use Rattle.paper.specs.Refusals.{Says, refuses, openedSays, listedSays, spanSays, takenSays, askedSays, stepSays}
 use Rattle.paper.specs.Index.{shownOf, entryAt, openOf, Sound}
 use Rattle.paper.specs.Entry.{entryBytes}
@@ -23,7 +24,8 @@ use Rattle.paper.specs.Step.{stepAnswer}
 use Rattle.paper.specs.Gaps.{gapsOf}
 use Rattle.paper.specs.Find.{reportOf}
 use Rattle.paper.specs.Convert.{convertOf}
-use Rattle.demands.specs.Causes.{Row, end, Given, Met, OpenRow, SlotRow, RuleRow, ReadRow, ListRow, FindRow, ClearRow, SaveRow, KeepRow, StepRow, ConvertRow, BlankRow}
+use Rattle.paper.specs.Link.{beginOf, takeOf, finishOf}
+use Rattle.demands.specs.Causes.{Row, end, Given, Met, OpenRow, SlotRow, RuleRow, ReadRow, ListRow, FindRow, ClearRow, SaveRow, KeepRow, StepRow, ConvertRow, LentRow, FinishRow, BlankRow}
 use Rattle.demands.specs.History.{Op, save, keep, clear, Whole, scanOf, writesBy, slotOf, takes, stateAfter}
 
 -- "A file opens exactly when" the facts of `Sound` hold: 01's ranges, its entries, and its rule that no two scans share a record.
@@ -55,6 +57,9 @@ pub record RefusedExactly : Type 0 where
   pub step-job : (f scan : List ℕ) (j : Job) → Told (stepSays (stepAnswer f scan j)) (StepRow f scan j)
   pub blank : (f : List ℕ) (n l m : ℕ) → Told (takenSays (blankOf f n l m)) (BlankRow f n l m)
   pub convert : (v : ℕ) (f out : List ℕ) → Told (takenSays (convertOf v f out)) (ConvertRow v f out)
+  pub link-begin : (len : ℕ) (row : List ℕ) → Told (takenSays (beginOf len row .answer)) (LentRow row end)
+  pub link-take : (k : Link) (p row : List ℕ) → Told (takenSays (takeOf k p row .answer)) (LentRow row end)
+  pub link-finish : (k : Link) (row : List ℕ) → Told (openedSays (finishOf k row)) (FinishRow k row)
 
 -- ---- what is confirmed stands
 

@@ -16,8 +16,9 @@ use Rattle.lent.proofs.Numbers.{number-join}
 use Rattle.paper.specs.declared.sizes.Sizes.{Sizes}
 use Rattle.paper.specs.declared.sizes.Run.{Run}
 use Rattle.paper.specs.Sizes.{wordAt, homeOf}
-use Rattle.paper.specs.Index.{runOf, rowRun, shares, sharer, badAt, sharedAt, Booted}
+use Rattle.paper.specs.Index.{runOf, rowRun, badAt, sharedAt, Booted}
 use Rattle.paper.proofs.Forms.{word-old, current-first, current-last}
+use Rattle.paper.proofs.Frame.{bad-same, shared-same}
 use Rattle.entries.specs.Row.{Begins, Stated, Filled, Runs, Fits, Holder}
 
 -- a test of a run that was read
@@ -127,25 +128,12 @@ holder-same run sun i x e h =
     let q = e (h .slot) (h .low) (h .high) in
     record { slot = h .slot; low = h .low; high = h .high; from = rw q (h .from); to = rw q (h .to) }
 
-module _ (z : Sizes) (run sun : ℕ → Run) (n : ℕ) (e : (s : ℕ) → 1 ≤ s → s ≤ n → run s ≡ sun s) where
-  pub sharer-same : (r : Run) (m : ℕ) → m ≤ n → sharer run r m ≡ sharer sun r m
-  unfolding sharer
-  sharer-same r m h = least-same (λ t. shares r (run t)) (λ t. shares r (sun t)) m (λ t a b. ap (shares r) (e t a (omega arith)))
-
-  pub bad-same : (s : ℕ) → 1 ≤ s → s ≤ n → badAt z run s ≡ badAt z sun s
-  unfolding badAt
-  bad-same s l m = rw (e s l m)
-
-  pub shared-same : (s : ℕ) → 1 ≤ s → s ≤ n → sharedAt run s ≡ sharedAt sun s
-  unfolding sharedAt
-  shared-same s l m = rw (e s l m, sharer-same (sun s) (s - 1) (omega arith))
-
-  pub fits-same : (i : ℕ) → i ≤ n → Fits z sun i → Fits z run i
-  fits-same i h g =
-      record {
-        bad = record { none = λ s l m. bad-same s l (omega arith) ∙ g .bad .none s l m };
-        shared = record { none = λ s l m. shared-same s l (omega arith) ∙ g .shared .none s l m };
-      }
+pub fits-same : (z : Sizes) (run sun : ℕ → Run) (n : ℕ) → ((s : ℕ) → 1 ≤ s → s ≤ n → run s ≡ sun s) → (i : ℕ) → i ≤ n → Fits z sun i → Fits z run i
+fits-same z run sun n e i h g =
+    record {
+      bad = record { none = λ s l m. bad-same z run sun n e s l (omega arith) ∙ g .bad .none s l m };
+      shared = record { none = λ s l m. shared-same z run sun n e s l (omega arith) ∙ g .shared .none s l m };
+    }
 
 -- a row that was filled from a file
 module _ (f : List ℕ) (z : Sizes) (row : List ℕ) (h : Runs f z row (z .u)) where

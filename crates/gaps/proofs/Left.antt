@@ -26,9 +26,10 @@ use Rattle.paper.specs.Store.{runFrom}
 use Rattle.paper.specs.Gaps.{recordAt, leftAt, gapsZero}
 use Rattle.paper.proofs.Sizing.{less, times}
 use Rattle.paper.proofs.Opening.{boot-sound, open-index, index-same}
+use Rattle.paper.proofs.Frame.{sharer-same}
 use Rattle.paper.proofs.Gaps.{left-facts, zeros-not-left, listed-not-left, false-gaps}
 use Rattle.entries.specs.Row.{Runs}
-use Rattle.entries.proofs.Rows.{sharer-same, holder-same}
+use Rattle.entries.proofs.Rows.{holder-same}
 use Rattle.index.specs.Judging.{Decoded, Shows, Looked}
 use Rattle.gaps.specs.Held.{Held, Swept, Next}
 

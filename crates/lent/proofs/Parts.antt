@@ -1,10 +1,10 @@
 -- The laws of a part, of two runs with the same bytes in a range, and what a change does to both.
-use Prim.Native.Nat.{ℕ, _+_, _-_, _≤_, _<_, min}
+use Prim.Native.Nat.{ℕ, zero, suc, _+_, _-_, _≤_, _<_, min}
 use mathlib.Core.Path.{_≡_, sym, _∙_, ap}
-use mathlib.Core.List.{List, [], _++_}
+use mathlib.Core.List.{List, [], _∷_, _++_}
 use mathlib.Core.Logic.{⊎-elim}
 use native.Mathlib.Omega.{arith}
-use native.Mathlib.Nat.{add-assoc, add-sub-cancel-left, sub-eq-zero-of-le}
+use native.Mathlib.Nat.{add-assoc, add-sub-cancel-left, sub-eq-zero-of-le, zero-sub, sub-zero, suc-sub-suc}
 use lib.ListN.{length, take, drop, getD, length-take, length-drop, length-append, drop-of-length-le, List·getD-append, List·getD-eq-default}
 use lib.Seq.{length-take-le, getD-take, getD-drop, take-nil, take-all, drop-at, take-append-seam, getD-append-add, ext-getD}
 use borrow.Author.Tests.{lt-ltb, le-ltb}
@@ -86,6 +86,22 @@ part-join a b c s h k m =
     ap (λ (n : ℕ). getD (part a b s ++ part b c s) n 0) e ∙ getD-append-add (part a b s) (part b c s) (i - (b - a)) 0
     ∙ part-at b c s (i - (b - a)) (omega arith) ∙ ap (λ (n : ℕ). getD s n 0) o ∙ sym (part-at a c s i (omega arith)))
     (lt-or-ge i (b - a)))
+
+-- the front, the rest and a part of one run after another
+pub take-append : (n : ℕ) (xs ys : List ℕ) → take n (xs ++ ys) ≡ take n xs ++ take (n - length xs) ys
+take-append zero xs ys = rw zero-sub
+take-append (suc n) [] ys = rw sub-zero
+take-append (suc n) (x ∷ xs) ys = rw (suc-sub-suc, take-append n xs ys)
+
+pub drop-append : (n : ℕ) (xs ys : List ℕ) → drop n (xs ++ ys) ≡ drop n xs ++ drop (n - length xs) ys
+drop-append zero xs ys = rw zero-sub
+drop-append (suc n) [] ys = rw sub-zero
+drop-append (suc n) (x ∷ xs) ys = rw suc-sub-suc (drop-append n xs ys)
+
+pub part-append : (a b : ℕ) (xs ys : List ℕ) → part a b (xs ++ ys) ≡ part a b xs ++ part (a - length xs) (b - length xs) ys
+part-append a b xs ys =
+    let e : b - a - length (drop a xs) ≡ b - length xs - (a - length xs) = omega (arith, length-drop a xs) in
+    rw (drop-append a xs ys, take-append (b - a) (drop a xs) (drop (a - length xs) ys), e)
 
 -- a part, and zeros after it where the run has them
 pub part-pad : (n a e : ℕ) (s xs : List ℕ) → xs ≡ part a (a + e) s → e ≤ n → a + n ≤ length s → ((i : ℕ) → e ≤ i → i < n → getD s (a + i) 0 ≡ 0)

@@ -8,7 +8,7 @@ use lib.Dec.{eqb}
 use lib.ListN.{getD}
 use borrow.Author.Tests.{ne-eqb}
 use Rattle.paper.specs.declared.refusal.Refusal.{Refusal}
-use Rattle.paper.specs.declared.refusal.Refusal.the-variants.{TooShort, OldForm, UnknownForm, OutOfRange, PastEnd, BadEntry, AboveUse, SharedRecord, NoSuchSlot, EmptySlot, BadScan, NoEmptySlot, NoRoom, Disagrees, Differs, BadBlank, TooSmall, NotVersionOne, NotConvertible}
+use Rattle.paper.specs.declared.refusal.Refusal.the-variants.{TooShort, OldForm, UnknownForm, OutOfRange, PastEnd, BadEntry, AboveUse, SharedRecord, NoSuchSlot, EmptySlot, BadScan, NoEmptySlot, NoRoom, Disagrees, Differs, BadBlank, TooSmall, NotVersionOne, NotConvertible, NotAllCame}
 use Rattle.paper.specs.declared.answer.Opened.{Opened}
 use Rattle.paper.specs.declared.answer.Opened.the-variants as opened
 use Rattle.paper.specs.declared.answer.Listed.{Listed}
@@ -53,6 +53,7 @@ refusalAt n v =
     ∷ TooSmall
     ∷ NotVersionOne
     ∷ NotConvertible
+    ∷ NotAllCame
     ∷ []) n TooShort
 
 undo : (r : Refusal) → refusalAt (numberOf r) (valueOf r) ≡ r
@@ -75,6 +76,7 @@ undo BadBlank = refl
 undo TooSmall = refl
 undo NotVersionOne = refl
 undo NotConvertible = refl
+undo NotAllCame = refl
 
 -- no refusal has number 0, the number of what is accepted
 pub number-some : (r : Refusal) → numberOf r ≡ 0 → ⊥

@@ -1,5 +1,5 @@
 -- The frame law: a file with the same length, bootstrap, index and bytes of every listed scan opens alike, lists the same and shows the same.
-use Prim.Native.Nat.{ℕ, _+_, _*_, _≤_, _<_}
+use Prim.Native.Nat.{ℕ, _+_, _-_, _*_, _≤_, _<_}
 use mathlib.Core.Path.{_≡_, refl, _∙_, ap}
 use mathlib.Core.List.{List}
 use mathlib.Core.Logic.{⊎-elim}
@@ -7,11 +7,12 @@ use native.Mathlib.Omega.{arith}
 use lib.ListN.{length}
 use Rattle.lent.specs.Part.{part, Alike}
 use Rattle.lent.proofs.Lists.{lt-or-ge}
+use Rattle.lent.proofs.Leasts.{least-same}
 use Rattle.lent.proofs.Parts.{part-same, alike-within}
 use Rattle.paper.specs.declared.sizes.Sizes.{Sizes}
 use Rattle.paper.specs.declared.sizes.Run.{Run}
 use Rattle.paper.specs.Sizes.{capacityOf, startOf, homeOf}
-use Rattle.paper.specs.Index.{runOf, shownOf, entryAt, Laid, Booted, Sound}
+use Rattle.paper.specs.Index.{runOf, badAt, aboveAt, shares, sharer, sharedAt, indexOf, shownOf, entryAt, Laid, Booted, Sound}
 use Rattle.paper.proofs.Sizing.{head-long, home-end}
 use Rattle.paper.proofs.Forms.{word-same, version-same, sizes-same}
 
@@ -25,6 +26,34 @@ laid-same u e L =
       above = λ s a b. rw (e s (omega arith) b) (L .above s a b);
       apart = λ s t r a b c. rw (e s a (omega arith), e t (omega arith) (omega arith)) (L .apart s t r a b c);
     }
+
+-- and judged by the runs of its slots alone
+module _ (z : Sizes) (run sun : ℕ → Run) (n : ℕ) (e : (s : ℕ) → 1 ≤ s → s ≤ n → run s ≡ sun s) where
+  pub sharer-same : (r : Run) (m : ℕ) → m ≤ n → sharer run r m ≡ sharer sun r m
+  unfolding sharer
+  sharer-same r m h = least-same (λ t. shares r (run t)) (λ t. shares r (sun t)) m (λ t a b. ap (shares r) (e t a (omega arith)))
+
+  pub bad-same : (s : ℕ) → 1 ≤ s → s ≤ n → badAt z run s ≡ badAt z sun s
+  unfolding badAt
+  bad-same s l m = rw (e s l m)
+
+  pub above-same : (s : ℕ) → 1 ≤ s → s ≤ n → aboveAt z run s ≡ aboveAt z sun s
+  unfolding aboveAt
+  above-same s l m = rw (e s l m)
+
+  pub shared-same : (s : ℕ) → 1 ≤ s → s ≤ n → sharedAt run s ≡ sharedAt sun s
+  unfolding sharedAt
+  shared-same s l m = rw (e s l m, sharer-same (sun s) (s - 1) (omega arith))
+
+pub index-runs : (z : Sizes) (run sun : ℕ → Run) → z .u ≤ capacityOf z → ((s : ℕ) → 1 ≤ s → s ≤ capacityOf z → run s ≡ sun s) → indexOf z run ≡ indexOf z sun
+unfolding indexOf
+index-runs z run sun u e =
+    let c : ℕ = capacityOf z in
+    rw (
+      least-same (badAt z run) (badAt z sun) (z .u) (λ s a b. bad-same z run sun c e s a (omega arith)),
+      least-same (aboveAt z run) (aboveAt z sun) c (above-same z run sun c e),
+      least-same (sharedAt run) (sharedAt sun) (z .u) (λ s a b. shared-same z run sun c e s a (omega arith)),
+    )
 
 module _ (f g : List ℕ) where
   -- the bootstrap is read from the first 32 bytes

@@ -14,7 +14,7 @@ use Rattle.lent.specs.Same.{same}
 use Rattle.whole.specs.Number.{exactly, wholeFloat, wholeOf}
 use Rattle.whole.specs.Length.{lengthOf, isWhole, sizeOf}
 use Rattle.paper.specs.Sizes.{wordAt, counterOf, typeOf, bootBytes, shaped, inRange}
-use Rattle.paper.specs.Index.{empty, inData, badAt, aboveAt, shares, sharer, sharedAt, indexOf, openOf, slotsOf}
+use Rattle.paper.specs.Index.{rowRun, empty, inData, badAt, aboveAt, shares, sharer, sharedAt, indexOf, openOf, slotsOf}
 use Rattle.paper.specs.Entry.{kindOf, magicOf, positionOf, versionOne, fieldsOf, entryBytes}
 use Rattle.paper.specs.Scan.{classesOf, startsOf, rule1, rule2, rule3, rule4, rule5, rule6, rising, ruledOf, classAt, classEnd, classIn, classOf, dataOf}
 use Rattle.paper.specs.Look.{listedOf, listedOut, foundOf, showOf, readOf}
@@ -22,9 +22,10 @@ use Rattle.paper.specs.Store.{freeAt, freePlace, emptySlot, saveOf, keep
 use Rattle.paper.specs.Step.{agrees, stands}
 use Rattle.paper.specs.Gaps.{leftAt, gapsZero, gapsOf}
 use Rattle.paper.specs.Find.{takesAt, findTurns, findOf, reportOf, reportOut}
+use Rattle.paper.specs.Link.{headOf, indexEnd, tookLink, moreOf, shifted, elementAfter, elementsOf, rowAfter, tookRow, beginOf, takeOf, takeRow, finishOf}
 use Rattle.paper.specs.Convert.{bootAs, scanAs, entryAs, entriesAs, recordsAs, otherMagic, wideRun, convertOf, convertedOut, joined}
 use Rattle.paper.specs.Lister.{digits, linesText, listText, printed}
-use Rattle.paper.specs.Known.{Refusals, Answers, Boot, OldBoot, Entries, Kinds, scan13, scan15, Scans, Rules, Index, Places, file, File, oldFile, OldFile, InBytes, Edges, Conversions, Parts, Agrees, Stands, Renewed, UsedNumber, OldRun, Gaps, Finds, Zeros, Prints}
+use Rattle.paper.specs.Known.{Refusals, Answers, Boot, OldBoot, Entries, Kinds, scan13, scan15, Scans, Rules, Index, Places, file, File, oldFile, OldFile, InBytes, Edges, Conversions, Parts, Agrees, Stands, Renewed, UsedNumber, OldRun, Gaps, Finds, Links, Zeros, Prints}
 
 pub refusals : Refusals
 refusals =
@@ -48,6 +49,7 @@ refusals =
       too-small = refl;
       not-version-one = refl;
       not-convertible = refl;
+      not-all-came = refl;
     }
 
 pub answers : Answers
@@ -457,6 +459,52 @@ finds =
       cut = refl;
       no-data = refl;
       one-data-record = refl;
+    }
+
+pub links : Links
+unfolding number value widened table least write wordAt counterOf typeOf shaped inRange rowRun empty inData badAt aboveAt shares sharer sharedAt headOf indexEnd tookLink moreOf shifted elementAfter elementsOf rowAfter tookRow beginOf takeOf takeRow finishOf
+links =
+    record {
+      head-last = refl;
+      head-all = refl;
+      head-short = refl;
+      end = refl;
+      no-end = refl;
+      byte-30 = refl;
+      byte-31 = refl;
+      past-byte-31 = refl;
+      version-2 = refl;
+      to-the-end = refl;
+      more = refl;
+      more-wraps = refl;
+      more-old = refl;
+      four-bytes = refl;
+      minus-two = refl;
+      places = refl;
+      places-old = refl;
+      cut-first = refl;
+      cut-then = refl;
+      cut-last = refl;
+      cut-old = refl;
+      no-row = refl;
+      elements = refl;
+      no-elements = refl;
+      row = refl;
+      row-of-a-piece = refl;
+      begins = refl;
+      begins-not = refl;
+      takes = refl;
+      takes-not = refl;
+      takes-row = refl;
+      takes-no-row = refl;
+      small = refl;
+      short = refl;
+      no-boot = refl;
+      past-length = refl;
+      unknown = refl;
+      not-all = refl;
+      opens = refl;
+      shared = refl;
     }
 
 pub zeroed : Zeros

@@ -20,6 +20,7 @@ pub mod Stages
 pub mod Begins
 pub mod Gaps
 pub mod Finding
+pub mod Linking
 pub mod Records
 pub mod Confirming
 pub mod Reading

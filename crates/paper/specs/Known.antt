@@ -12,7 +12,7 @@ use Rattle.lent.specs.Write.{write}
 use Rattle.lent.specs.Checks.{clear, fires, fired}
 use Rattle.paper.specs.declared.sizes.Sizes.{Sizes}
 use Rattle.paper.specs.declared.sizes.Run.{Run}
-use Rattle.paper.specs.declared.refusal.Refusal.the-variants.{TooShort, OldForm, UnknownForm, OutOfRange, PastEnd, BadEntry, AboveUse, SharedRecord, NoSuchSlot, EmptySlot, BadScan, NoEmptySlot, NoRoom, Disagrees, Differs, BadBlank, TooSmall, NotVersionOne, NotConvertible}
+use Rattle.paper.specs.declared.refusal.Refusal.the-variants.{TooShort, OldForm, UnknownForm, OutOfRange, PastEnd, BadEntry, AboveUse, SharedRecord, NoSuchSlot, EmptySlot, BadScan, NoEmptySlot, NoRoom, Disagrees, Differs, BadBlank, TooSmall, NotVersionOne, NotConvertible, NotAllCame}
 use Rattle.paper.specs.declared.answer.Opened.{Opened}
 use Rattle.paper.specs.declared.answer.Opened.the-variants as opened
 use Rattle.paper.specs.declared.answer.Listed.the-variants as listed
@@ -26,6 +26,7 @@ use Rattle.paper.specs.declared.entry.Kind.the-variants.{Spectral, Conti
 use Rattle.paper.specs.declared.entry.Entry.{Entry}
 use Rattle.paper.specs.declared.job.Job.{Job}
 use Rattle.paper.specs.declared.job.Step.the-variants as step
+use Rattle.paper.specs.declared.link.Link.{Link}
 use Rattle.paper.specs.Refusals.{Says, refuses, openedSays, listedSays, spanSays, takenSays, askedSays, stepSays, kindSays}
 use Rattle.paper.specs.Sizes.{sizesOf, versionOf, wordAt, bootBytes}
 use Rattle.paper.specs.Index.{indexOf, openOf}
@@ -36,6 +37,7 @@ use Rattle.paper.specs.Store.{blankSizes, freePlace, emptySlot, highest,
 use Rattle.paper.specs.Step.{agrees, noWrite, stands, isConfirmed}
 use Rattle.paper.specs.Gaps.{gapsOf}
 use Rattle.paper.specs.Find.{reportOf, reportOut}
+use Rattle.paper.specs.Link.{headOf, indexEnd, headed, tookLink, moreOf, shifted, numberAt, elementAfter, elementsOf, rowAfter, tookRow, beginOf, takeOf, takeRow, finishOf}
 use Rattle.paper.specs.Convert.{Carried, bootAs, scanAs, entryAs, wideRun, formChecks, convertOf, convertedOut, joined}
 use Rattle.paper.specs.Lister.{decimal, printed, listText}
 
@@ -65,6 +67,7 @@ pub record Refusals : Type 0 where
   pub too-small : refuses TooSmall ≡ says 17 (0 ∷ [])
   pub not-version-one : refuses NotVersionOne ≡ says 18 (0 ∷ [])
   pub not-convertible : refuses NotConvertible ≡ says 19 (0 ∷ [])
+  pub not-all-came : refuses NotAllCame ≡ says 20 (0 ∷ [])
 
 -- sizes with every number its own
 abbrev pub someSizes : Sizes
@@ -647,6 +650,77 @@ pub record Finds : Type 0 where
   -- D is 0, and 1
   pub no-data : reportOf (write file 7 (0 ∷ [])) [] ≡ listed.Scans 0
   pub one-data-record : reportOut (write file 7 (1 ∷ [])) (replicate 6 9) ≡ 3 ∷ 3 ∷ 0 ∷ 9 ∷ 9 ∷ 9 ∷ []
+
+-- ---- the slow link
+
+-- N 2, L 512, M 64, so 8 slots, in either form
+abbrev pub eightSlots : ℕ → Sizes
+eightSlots v = record { n = 2; d = 0; l = 512; m = 64; u = 0; counter = 0; kind = 0; version = v }
+
+-- a link for that file, of 2,560 bytes and with an index to byte 1,024, whose bootstrap stands in it; and one that was given this length
+abbrev pub linkAt : ℕ → ℕ → Link
+linkAt came ends = record { span = 2560; came = came; ends = ends; boot = take 32 fileBoot }
+
+abbrev pub linkOf : ℕ → ℕ → Link
+linkOf span came = record { span = span; came = came; ends = 0; boot = take 32 fileBoot }
+
+-- a row with the runs of its four slots, and nines up to 8,192
+abbrev pub linkRow : List ℕ
+linkRow = 4 ∷ 4 ∷ 3 ∷ 3 ∷ 5 ∷ 5 ∷ 0 ∷ 0 ∷ replicate 8184 9
+
+-- 02, 2026-07: what a piece leaves in link and row, and what finish says
+pub record Links : Type 0 where
+  -- the bootstrap's bytes of a piece: its last one; all of a short piece; none where the length is refused
+  pub head-last : headOf (linkOf 512 31) (7 ∷ 7 ∷ 7 ∷ []) ≡ 1
+  pub head-all : headOf (linkOf 512 0) (7 ∷ 7 ∷ 7 ∷ []) ≡ 3
+  pub head-short : headOf (linkOf 511 0) (7 ∷ 7 ∷ 7 ∷ []) ≡ 0
+  -- where the index ends, "over the given length"
+  pub end : indexEnd 2560 fileSizes ≡ 1024
+  pub no-end : indexEnd 2559 fileSizes ≡ 0
+  -- that is known with byte 31 and not before
+  pub byte-30 : tookLink (linkAt 30 0) (0 ∷ []) ≡ linkAt 31 0
+  pub byte-31 : headed (linkAt 31 0) (1 ∷ 8 ∷ 8 ∷ []) ≡ linkAt 32 1024
+  pub past-byte-31 : tookLink (linkAt 31 0) (1 ∷ 8 ∷ 8 ∷ []) ≡ linkAt 34 1024
+  pub version-2 : tookLink (linkAt 31 0) (2 ∷ 8 ∷ 8 ∷ []) ≡ record { span = 2560; came = 32; ends = 0; boot = write (take 32 fileBoot) 31 (2 ∷ []) }
+  -- "bytes past N x L" count for nothing
+  pub to-the-end : tookLink (linkAt 1022 1024) (8 ∷ 8 ∷ 8 ∷ []) ≡ linkAt 1024 1024
+  -- one byte more of a number, in either form; what stood before it goes
+  pub more : moreOf 1 305419896 154 ≡ 878082202
+  pub more-wraps : moreOf 1 4294967295 254 ≡ 4294967294
+  pub more-old : moreOf 0 305419896 154 ≡ 30874
+  pub four-bytes : shifted 1 4294967295 (1 ∷ 2 ∷ 3 ∷ 4 ∷ []) ≡ 16909060
+  pub minus-two : shifted 0 5 (255 ∷ 254 ∷ []) ≡ 4294967294
+  -- first and last of slot 1, and of slot 2
+  pub places : table 4 (numberAt (eightSlots 1)) ≡ 512 ∷ 516 ∷ 576 ∷ 580 ∷ []
+  pub places-old : table 4 (numberAt (eightSlots 0)) ≡ 512 ∷ 514 ∷ 576 ∷ 578 ∷ []
+  -- a number that is cut in two: bytes 510 to 513 come, then 514 to 518, which are its other two and three of the next number's
+  pub cut-first : elementAfter (eightSlots 1) 510 (9 ∷ 9 ∷ 1 ∷ 2 ∷ []) (7 ∷ 8 ∷ []) 0 ≡ 459010
+  pub cut-then : elementAfter (eightSlots 1) 514 (3 ∷ 4 ∷ 5 ∷ 6 ∷ 7 ∷ []) (459010 ∷ 8 ∷ []) 0 ≡ 16909060
+  pub cut-last : elementAfter (eightSlots 1) 514 (3 ∷ 4 ∷ 5 ∷ 6 ∷ 7 ∷ []) (459010 ∷ 8 ∷ []) 1 ≡ 134546951
+  pub cut-old : elementAfter (eightSlots 0) 513 (254 ∷ 9 ∷ 9 ∷ []) (255 ∷ []) 0 ≡ 4294967294
+  pub no-row : elementAfter (eightSlots 0) 512 (1 ∷ []) [] 0 ≡ 1
+  -- 16 elements; none where N is 1
+  pub elements : elementsOf (eightSlots 1) ≡ 16
+  pub no-elements : elementsOf (record { n = 1; d = 0; l = 512; m = 64; u = 0; counter = 0; kind = 0; version = 1 }) ≡ 0
+  -- of one slot; "elements past" the index's are not touched
+  pub row : rowAfter (record { n = 2; d = 0; l = 512; m = 512; u = 0; counter = 0; kind = 0; version = 1 }) 508 (8 ∷ 8 ∷ 8 ∷ 8 ∷ 0 ∷ 0 ∷ 0 ∷ 3 ∷ 0 ∷ 0 ∷ 0 ∷ 4 ∷ 8 ∷ []) (9 ∷ 9 ∷ 5 ∷ 6 ∷ []) ≡ 3 ∷ 4 ∷ 5 ∷ 6 ∷ []
+  pub row-of-a-piece : tookRow (linkAt 511 1024) (8 ∷ 0 ∷ 0 ∷ 0 ∷ 4 ∷ []) (replicate 10 9) ≡ 4 ∷ replicate 9 9
+  -- "17 at any call lent a shorter row": a link of zeros, the link as it was, and the row as it was
+  pub begins : beginOf 700 (replicate 8192 9) ≡ record { answer = taken.Accepted; link = record { span = 700; came = 0; ends = 0; boot = replicate 32 0 } }
+  pub begins-not : beginOf 700 (replicate 8191 9) ≡ record { answer = taken.Refused TooSmall; link = record { span = 0; came = 0; ends = 0; boot = replicate 32 0 } }
+  pub takes : takeOf (linkAt 1022 1024) (8 ∷ []) (replicate 8193 9) ≡ record { answer = taken.Accepted; link = linkAt 1023 1024 }
+  pub takes-not : takeOf (linkAt 1022 1024) (8 ∷ []) (replicate 8191 9) ≡ record { answer = taken.Refused TooSmall; link = linkAt 1022 1024 }
+  pub takes-row : takeRow (linkAt 511 1024) (8 ∷ 0 ∷ 0 ∷ 0 ∷ 4 ∷ []) (replicate 8192 9) ≡ 4 ∷ replicate 8191 9
+  pub takes-no-row : takeRow (linkAt 511 1024) (8 ∷ 0 ∷ 0 ∷ 0 ∷ 4 ∷ []) (replicate 10 9) ≡ replicate 10 9
+  -- "Finish: 17; length < 512: 1; fewer than 32 bytes came: 20; the bootstrap's own; fewer than N x L came: 20; then 6 to 8"
+  pub small : finishOf (linkOf 511 31) (replicate 8191 9) ≡ opened.Refused TooSmall
+  pub short : finishOf (linkOf 511 31) linkRow ≡ opened.Refused TooShort
+  pub no-boot : finishOf (linkOf 512 31) linkRow ≡ opened.Refused NotAllCame
+  pub past-length : finishOf (linkOf 2559 32) linkRow ≡ opened.Refused PastEnd
+  pub unknown : finishOf (record { span = 2560; came = 32; ends = 0; boot = write (take 32 fileBoot) 31 (2 ∷ []) }) linkRow ≡ opened.Refused UnknownForm
+  pub not-all : finishOf (linkAt 1023 1024) (replicate 8192 9) ≡ opened.Refused NotAllCame
+  pub opens : finishOf (linkAt 1024 1024) linkRow ≡ opened.Opens fileSizes
+  pub shared : finishOf (linkAt 1024 1024) (4 ∷ 4 ∷ 3 ∷ 4 ∷ drop 4 linkRow) ≡ opened.Refused (SharedRecord 2)
 
 -- ---- zeros
 

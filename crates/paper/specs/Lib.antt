@@ -8,6 +8,7 @@ pub mod Store
 pub mod Step
 pub mod Gaps
 pub mod Find
+pub mod Link
 pub mod Convert
 pub mod Numbers
 pub mod Lister

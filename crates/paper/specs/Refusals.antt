@@ -4,7 +4,7 @@ use mathlib.Core.Bool.{cond}
 use mathlib.Core.List.{List, [], _∷_}
 use lib.Ieee.{Float}
 use Rattle.paper.specs.declared.refusal.Refusal.{Refusal}
-use Rattle.paper.specs.declared.refusal.Refusal.the-variants.{TooShort, OldForm, UnknownForm, OutOfRange, PastEnd, BadEntry, AboveUse, SharedRecord, NoSuchSlot, EmptySlot, BadScan, NoEmptySlot, NoRoom, Disagrees, Differs, BadBlank, TooSmall, NotVersionOne, NotConvertible}
+use Rattle.paper.specs.declared.refusal.Refusal.the-variants.{TooShort, OldForm, UnknownForm, OutOfRange, PastEnd, BadEntry, AboveUse, SharedRecord, NoSuchSlot, EmptySlot, BadScan, NoEmptySlot, NoRoom, Disagrees, Differs, BadBlank, TooSmall, NotVersionOne, NotConvertible, NotAllCame}
 use Rattle.paper.specs.declared.answer.Opened.{Opened}
 use Rattle.paper.specs.declared.answer.Opened.the-variants as opened
 use Rattle.paper.specs.declared.answer.Listed.{Listed}
@@ -41,6 +41,7 @@ numberOf BadBlank = 16
 numberOf TooSmall = 17
 numberOf NotVersionOne = 18
 numberOf NotConvertible = 19
+numberOf NotAllCame = 20
 
 -- "with slot or reason where shown, else 0"
 abbrev pub valueOf : Refusal → ℕ
@@ -63,6 +64,7 @@ valueOf BadBlank = 0
 valueOf TooSmall = 0
 valueOf NotVersionOne = 0
 valueOf NotConvertible = 0
+valueOf NotAllCame = 0
 
 -- what an answer says: the refusal's number, or 0 where the call is accepted; and the values that go with it
 pub record Says : Type 0 where

@@ -2,5 +2,6 @@
 pub mod answer;
 pub mod entry;
 pub mod job;
+pub mod link;
 pub mod refusal;
 pub mod sizes;

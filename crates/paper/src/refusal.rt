@@ -22,6 +22,7 @@ pub enum Refusal {
     TooSmall,
     NotVersionOne,
     NotConvertible,
+    NotAllCame,
 }
 
 impl Refusal {
@@ -49,6 +50,7 @@ impl Refusal {
             Refusal::TooSmall => 17,
             Refusal::NotVersionOne => 18,
             Refusal::NotConvertible => 19,
+            Refusal::NotAllCame => 20,
         }
     }
 
@@ -76,6 +78,7 @@ impl Refusal {
             Refusal::TooSmall => 0,
             Refusal::NotVersionOne => 0,
             Refusal::NotConvertible => 0,
+            Refusal::NotAllCame => 0,
         }
     }
 }

@@ -1,7 +1,7 @@
 -- The paper's run, by computation.
 use mathlib.Core.Path.{refl}
 use lib.Ieee.{ofBits}
-use Rattle.lent.specs.Number.{number, value, digit, bytes, numbers, int16}
+use Rattle.lent.specs.Number.{number, value, digit, bytes, numbers, int16, widened}
 use Rattle.lent.specs.Lists.{table, every, those, threes}
 use Rattle.lent.specs.Least.{least}
 use Rattle.lent.specs.Greatest.{greatest}
@@ -10,7 +10,7 @@ use Rattle.lent.specs.Same.{same}
 use Rattle.whole.specs.Number.{exactly, wholeFloat, wholeOf}
 use Rattle.whole.specs.Length.{lengthOf, isWhole, sizeOf}
 use Rattle.paper.specs.Sizes.{wordAt, counterOf, typeOf, bootBytes, shaped, inRange}
-use Rattle.paper.specs.Index.{empty, inData, badAt, aboveAt, shares, sharer, sharedAt, openOf, slotsOf}
+use Rattle.paper.specs.Index.{rowRun, empty, inData, badAt, aboveAt, shares, sharer, sharedAt, openOf, slotsOf}
 use Rattle.paper.specs.Entry.{versionOne, entryBytes}
 use Rattle.paper.specs.Scan.{classesOf, startsOf, rule1, rule2, rule3, rule4, rule5, rule6, rising, ruledOf}
 use Rattle.paper.specs.Look.{readOf}
@@ -18,10 +18,11 @@ use Rattle.paper.specs.Store.{blankFile, blankOf, freeAt, freePlace, saveOf, cl
 use Rattle.paper.specs.Step.{agrees, stepFile, stepJob, stands, stepAnswer}
 use Rattle.paper.specs.Gaps.{leftAt, gapsZero, gapsOf}
 use Rattle.paper.specs.Find.{takesAt, findTurns, findOf, reportOut}
+use Rattle.paper.specs.Link.{headOf, indexEnd, tookLink, moreOf, shifted, elementAfter, elementsOf, rowAfter, tookRow, beginOf, takeOf, takeRow, finishOf}
 use Rattle.paper.specs.Lister.{digits, linesText, listText}
 use Rattle.paper_run.specs.Scans.{preamble, double, scanOf}
 use Rattle.paper_run.specs.Files.{file0, file1, file2, file3, file4, file5, broken}
-use Rattle.paper_run.specs.Run.{Run, Lowered, Zeroed, Found, Kept}
+use Rattle.paper_run.specs.Run.{Run, Lowered, Zeroed, Found, Linked, Kept}
 
 pub kept : Kept
 unfolding number value int16 table every exactly wholeFloat wholeOf ofBits lengthOf isWhole sizeOf classesOf startsOf rule1 rule2 rule3 rule4 rule5 rule6 rising ruledOf preamble double scanOf
@@ -83,4 +84,17 @@ found =
       listed = refl;
       lost = refl;
       left = refl;
+    }
+
+pub linked : Linked
+unfolding number value digit bytes numbers int16 widened table every least greatest write zeros pad same exactly wholeFloat wholeOf ofBits lengthOf isWhole sizeOf wordAt counterOf typeOf bootBytes shaped inRange rowRun empty inData badAt aboveAt shares sharer sharedAt openOf versionOne entryBytes classesOf startsOf rule1 rule2 rule3 rule4 rule5 rule6 rising ruledOf blankFile freeAt freePlace saveOf dataFrom writesOf agrees stepFile stepJob stands stepAnswer headOf indexEnd tookLink moreOf shifted elementAfter elementsOf rowAfter tookRow beginOf takeOf takeRow finishOf preamble double scanOf file0 file1 file2 file3 broken
+linked =
+    record {
+      opens = refl;
+      linked = refl;
+      bootstrap-cut = refl;
+      number-cut = refl;
+      byte-short = refl;
+      index-alone = refl;
+      broken-entry = refl;
     }

@@ -5,8 +5,11 @@ use lib.ListN.{replicate}
 use Rattle.lent.specs.Write.{write}
 use Rattle.paper.specs.declared.job.Job.{Job}
 use Rattle.paper.specs.declared.job.Step.{Step}
+use Rattle.paper.specs.declared.link.Link.{Link}
+use Rattle.paper.specs.declared.answer.Opened.{Opened}
 use Rattle.paper.specs.Store.{blankFile, saveOf, clearOf}
 use Rattle.paper.specs.Step.{stepAnswer, stepFile, stepJob}
+use Rattle.paper.specs.Link.{beginOf, takeOf, takeRow, finishOf}
 use Rattle.paper_run.specs.Scans.{scan1, scan2, scan3, scan4}
 
 -- n steps of a job: the answers, and the file and the job after them
@@ -71,3 +74,12 @@ file5 = cleared 5 file3 9
 -- file 0 with U = 3 and an entry for slot 3 that names record 1
 unfoldable pub broken : List ℕ
 broken = write (write file0 16 (0 ∷ 0 ∷ 0 ∷ 3 ∷ [])) 640 (0 ∷ 0 ∷ 0 ∷ 1 ∷ [])
+
+-- what finish says after these pieces, of that link and row
+abbrev pub finished : List (List ℕ) → Link → List ℕ → Opened
+finished [] k row = finishOf k row
+finished (p ∷ ps) k row = finished ps (takeOf k p row .link) (takeRow k p row)
+
+-- and of 4,096 bytes, begun with a row of nines
+abbrev pub overLink : List (List ℕ) → Opened
+overLink ps = finished ps (beginOf 4096 (replicate 8192 9) .link) (replicate 8192 9)

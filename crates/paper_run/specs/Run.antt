@@ -3,13 +3,16 @@ use Prim.Native.Nat.{ℕ}
 use mathlib.Core.Path.{_≡_}
 use mathlib.Core.Bool.{true, false}
 use mathlib.Core.List.{List, [], _∷_}
-use lib.ListN.{length, replicate}
+use lib.ListN.{length, take, drop, replicate}
+use Rattle.lent.specs.Part.{part}
 use Rattle.lent.specs.Write.{write}
 use Rattle.paper.specs.declared.answer.Ruled.the-variants.{Keeps}
+use Rattle.paper.specs.declared.answer.Opened.{Opened}
 use Rattle.paper.specs.declared.answer.Opened.the-variants.{Opens}
+use Rattle.paper.specs.declared.answer.Opened.the-variants as opened
 use Rattle.paper.specs.declared.answer.Taken.the-variants.{Accepted}
 use Rattle.paper.specs.declared.answer.Asked.the-variants.{Is}
-use Rattle.paper.specs.declared.refusal.Refusal.the-variants.{Differs}
+use Rattle.paper.specs.declared.refusal.Refusal.the-variants.{BadEntry, Differs, NotAllCame}
 use Rattle.paper.specs.declared.job.Step.the-variants.{Wrote, Saved, Cleared, Refused}
 use Rattle.paper.specs.Refusals.{takenSays}
 use Rattle.paper.specs.Sizes.{sizesOf, capacityOf, roomOf}
@@ -22,7 +25,7 @@ use Rattle.paper.specs.Gaps.{gapsOf}
 use Rattle.paper.specs.Find.{reportOut}
 use Rattle.paper.specs.Lister.{listText}
 use Rattle.paper_run.specs.Scans.{scan1, scan2, scan3, scan4, scan5}
-use Rattle.paper_run.specs.Files.{jobAfter, saving, saved, clearing, cleared, about, lent, file0, file1, file2, file3, file4, file5, broken}
+use Rattle.paper_run.specs.Files.{jobAfter, saving, saved, clearing, cleared, about, lent, file0, file1, file2, file3, file4, file5, broken, overLink}
 
 -- "slots 16 used 9 scans 2", "1 7 8" and "9 6 6", each with its newline
 abbrev pub threeLines : List ℕ
@@ -103,6 +106,24 @@ pub record Found : Type 0 where
   pub lost : reportOut (write file3 512 (replicate 1024 165)) (replicate 6 0) ≡ 6 ∷ 6 ∷ 144680345676153346 ∷ 7 ∷ 8 ∷ 217020518514230019 ∷ []
   -- after a cut the old scan is left in records 4 and 5, and is found too
   pub left : reportOut (saved 4 file2 1 scan3) (replicate 9 0) ≡ 4 ∷ 5 ∷ 72340172838076673 ∷ 6 ∷ 6 ∷ 144680345676153346 ∷ 7 ∷ 8 ∷ 217020518514230019 ∷ []
+
+-- 02, 2026-07: that file over the slow link, cut in its bootstrap, after 14 bytes, and in slot 9's first number, which is bytes 1,024 to 1,027. Its index ends
+-- after 1,536
+abbrev pub opened3 : Opened
+opened3 = Opens (record { n = 3; d = 5; l = 512; m = 64; u = 9; counter = 3; kind = 0; version = 1 })
+
+pub record Linked : Type 0 where
+  -- "The answer equals that of open on the whole file"
+  pub opens : openOf file3 ≡ opened3
+  pub linked : overLink (take 14 file3 ∷ part 14 1026 file3 ∷ drop 1026 file3 ∷ []) ≡ opened3
+  -- "20 if .. fewer than 32 bytes came, or if .. fewer than N x L came"
+  pub bootstrap-cut : overLink (take 14 file3 ∷ []) ≡ opened.Refused NotAllCame
+  pub number-cut : overLink (take 14 file3 ∷ part 14 1026 file3 ∷ []) ≡ opened.Refused NotAllCame
+  pub byte-short : overLink (take 14 file3 ∷ part 14 1026 file3 ∷ part 1026 1535 file3 ∷ []) ≡ opened.Refused NotAllCame
+  -- "Bytes past the index are passed over", and need not come
+  pub index-alone : overLink (take 14 file3 ∷ part 14 1026 file3 ∷ part 1026 1536 file3 ∷ []) ≡ opened3
+  -- the entry of slot 3 names record 1; cut in its first number
+  pub broken-entry : overLink (take 14 broken ∷ part 14 642 broken ∷ drop 642 broken ∷ []) ≡ opened.Refused (BadEntry 3)
 
 -- the scans keep the rules
 pub record Kept : Type 0 where

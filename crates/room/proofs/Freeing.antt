@@ -16,9 +16,10 @@ use Rattle.paper.specs.Sizes.{capacityOf, roomOf, Ranged}
 use Rattle.paper.specs.Index.{runOf, rowRun, empty, shares, sharer, Lies, Sound}
 use Rattle.paper.specs.Store.{runFrom, freeAt, freePlace, emptySlot}
 use Rattle.paper.proofs.Opening.{Shares, share-facts, sharer-none, none-sharer, common-shares, facts-empty}
+use Rattle.paper.proofs.Frame.{sharer-same}
 use Rattle.paper.proofs.Free.{FreeAt, free-facts, facts-free}
 use Rattle.entries.specs.Row.{Runs}
-use Rattle.entries.proofs.Rows.{sharer-same, holder-same}
+use Rattle.entries.proofs.Rows.{holder-same}
 use Rattle.room.specs.Passing.{Sought, Hints, Missed, Passed, Vacant}
 
 -- ---- the lowest empty slot: the slots in use are passed one by one, those above are empty

@@ -1,7 +1,7 @@
--- Refusal numbers end at 19, slots at 4,096 and reasons at 6: what a refusal says fits the face.
+-- Refusal numbers end at 20, slots at 4,096 and reasons at 6: what a refusal says fits the face.
 use Prim.Native.Nat.{ℕ, _-_, _*_, _≤_, _<_}
 use mathlib.Core.Path.{_≡_, refl, sym, _∙_, subst}
-use mathlib.Core.Bool.{Bool, true, false, cond}
+use mathlib.Core.Bool.{Bool, true, false, not, cond}
 use mathlib.Core.List.{List, [], _∷_, _++_}
 use mathlib.Core.Logic.{_≢_, ⊎-elim}
 use native.Mathlib.Omega.{arith}
@@ -16,7 +16,7 @@ use Rattle.lent.proofs.Checks.{clear≢fires, fires-same, judge-fires}
 use Rattle.paper.specs.declared.sizes.Sizes.{Sizes}
 use Rattle.paper.specs.declared.sizes.Run.{Run}
 use Rattle.paper.specs.declared.refusal.Refusal.{Refusal}
-use Rattle.paper.specs.declared.refusal.Refusal.the-variants.{TooShort, OldForm, UnknownForm, OutOfRange, PastEnd, BadEntry, AboveUse, SharedRecord, NoSuchSlot, EmptySlot, BadScan, NoEmptySlot, NoRoom, Disagrees, Differs, BadBlank, TooSmall, NotVersionOne, NotConvertible}
+use Rattle.paper.specs.declared.refusal.Refusal.the-variants.{TooShort, OldForm, UnknownForm, OutOfRange, PastEnd, BadEntry, AboveUse, SharedRecord, NoSuchSlot, EmptySlot, BadScan, NoEmptySlot, NoRoom, Disagrees, Differs, BadBlank, TooSmall, NotVersionOne, NotConvertible, NotAllCame}
 use Rattle.paper.specs.declared.answer.Opened.{Opened}
 use Rattle.paper.specs.declared.answer.Opened.the-variants as opened
 use Rattle.paper.specs.declared.answer.Listed.the-variants as listed
@@ -27,25 +27,27 @@ use Rattle.paper.specs.declared.answer.Ruled.the-variants.{Keeps, Breaks}
 use Rattle.paper.specs.declared.answer.Taken.the-variants as taken
 use Rattle.paper.specs.declared.answer.Asked.the-variants as asked
 use Rattle.paper.specs.declared.entry.Found.{Found}
+use Rattle.paper.specs.declared.link.Link.{Link}
 use Rattle.paper.specs.declared.job.Job.{Job}
 use Rattle.paper.specs.declared.job.Begun.{Begun}
 use Rattle.paper.specs.declared.job.Step.{Step}
 use Rattle.paper.specs.declared.job.Step.the-variants as step
 use Rattle.paper.specs.Refusals.{numberOf, valueOf}
-use Rattle.paper.specs.Sizes.{sizesOf, versionOf, startOf, capacityOf, bootChecks, Ranged}
-use Rattle.paper.specs.Index.{runOf, shownOf, badAt, aboveAt, sharedAt, indexChecks, openChecks, changeChecks, bootOf, indexOf, openOf}
+use Rattle.paper.specs.Sizes.{sizesOf, versionOf, startOf, capacityOf, bytesOf, inRange, short, bootChecks, Ranged}
+use Rattle.paper.specs.Index.{runOf, rowRun, shownOf, badAt, aboveAt, sharedAt, indexChecks, openChecks, changeChecks, bootOf, indexOf, openOf}
 use Rattle.paper.specs.Scan.{ruledOf, classAt, classEnd, classIn, ofRuled, classOf, dataOf, startsOf, classesOf}
 use Rattle.paper.specs.Look.{listOf, listChecks, listedOf, heldChecks, slotChecks, otherScan, readChecks, noSlot, foundOf, showOf, readIn, readOf}
 use Rattle.paper.specs.Store.{blankChecks, blankSizes, blankOf, reasonOf, scanChecks, refused, saveOf, keepOf, keepSlot, clearOf}
 use Rattle.paper.specs.Gaps.{gapsOf}
 use Rattle.paper.specs.Find.{findChecks, reportOf}
 use Rattle.paper.specs.Convert.{tooSmall, formChecks, convertChecks, convertOf}
+use Rattle.paper.specs.Link.{rowShort, linkAnswer, fewer, cameChecks, beginOf, takeOf, finishOf}
 use Rattle.paper.specs.Step.{agrees, hasLeft, wroteOf, confirmed, confirmOf, stands, stepAnswer}
-use Rattle.paper.proofs.Opening.{boot-sound, boot-fires, open-index, open-refused, open-sound, refused-fires, then-opens, then-refused, change-old, change-look}
+use Rattle.paper.proofs.Opening.{range-facts, boot-sound, boot-fires, open-index, open-refused, open-sound, refused-fires, then-opens, then-refused, change-old, change-look}
 use Rattle.paper.proofs.Reasons.{reason-least}
 use Rattle.sdd.specs.Face.{OpenedSmall, TakenSmall, SpanSmall, ListedSmall, AskedSmall, StepSmall}
 
-pub number-small : (r : Refusal) → numberOf r ≤ 19
+pub number-small : (r : Refusal) → numberOf r ≤ 20
 number-small TooShort = omega arith
 number-small OldForm = omega arith
 number-small UnknownForm = omega arith
@@ -65,6 +67,7 @@ number-small BadBlank = omega arith
 number-small TooSmall = omega arith
 number-small NotVersionOne = omega arith
 number-small NotConvertible = omega arith
+number-small NotAllCame = omega arith
 
 -- ---- checks whose refusals have small values
 
@@ -234,3 +237,45 @@ step-small f scan j =
     either-way StepSmall (agrees f scan j) _ (step.Refused Disagrees)
     (either-way StepSmall (hasLeft (sizesOf f) j) (wroteOf f (sizesOf f) scan j) (confirmOf f scan j (openOf f)) tt (confirm-small f scan j (openOf f) refl))
     (omega arith)
+
+-- ---- the link
+
+lent-small : (row : List ℕ) → TakenSmall (linkAnswer row)
+lent-small row = judged TakenSmall taken.Refused (rowShort row ∷ []) taken.Accepted (small-fires (rowShort row ∷ []) (omega arith, tt)) tt
+
+pub begin-small : (len : ℕ) (row : List ℕ) → TakenSmall (beginOf len row .answer)
+unfolding beginOf
+begin-small len row = lent-small row
+
+pub take-small : (k : Link) (p row : List ℕ) → TakenSmall (takeOf k p row .answer)
+unfolding takeOf
+take-small k p row = lent-small row
+
+-- sizes outside their ranges open nothing
+stopped : (a b c d : Bool) (cs : List (Check Refusal)) (x : Opened)
+    → OpenedSmall (judge opened.Refused (check a TooSmall ∷ check b TooShort ∷ check c NotAllCame ∷ check d UnknownForm ∷ check true OutOfRange ∷ cs) x)
+stopped true b c d cs x = omega arith
+stopped false true c d cs x = omega arith
+stopped false false true d cs x = omega arith
+stopped false false false true cs x = omega arith
+stopped false false false false cs x = omega arith
+
+pub finish-fits : (k : Link) (row : List ℕ) → OpenedSmall (finishOf k row)
+unfolding finishOf
+finish-fits k row = go (inRange z) refl
+  where
+    z : Sizes
+    z = sizesOf (k .boot)
+
+    checks : Bool → List (Check Refusal)
+    checks t =
+        rowShort row ∷ short (k .span) ∷ fewer k 32 ∷ check (ltb 1 (z .version)) UnknownForm ∷ check (not t) OutOfRange
+        ∷ check (ltb (k .span) (bytesOf z)) PastEnd ∷ cameChecks k z (rowRun row)
+
+    go : (t : Bool) → inRange z ≡ t → OpenedSmall (judge opened.Refused (checks t) (opened.Opens z))
+    go true e =
+        let R = range-facts z e in
+        judged OpenedSmall opened.Refused (checks true) (opened.Opens z)
+        (small-fires (checks true) (omega arith, (omega arith, (omega arith, (omega arith, (omega arith, (omega arith, (omega arith, index-small z R (rowRun row)))))))))
+        (R .shape)
+    go false e = stopped (ltb (length row) 8192) (ltb (k .span) 512) (ltb (k .came) 32) (ltb 1 (z .version)) (check (ltb (k .span) (bytesOf z)) PastEnd ∷ cameChecks k z (rowRun row)) (opened.Opens z)

@@ -14,6 +14,8 @@ use Rattle.paper.specs.declared.answer.Taken.{Taken}
 use Rattle.paper.specs.declared.answer.Asked.{Asked}
 use Rattle.paper.specs.declared.entry.Found.{Found}
 use Rattle.paper.specs.declared.refusal.Refusal.the-variants.{Disagrees}
+use Rattle.paper.specs.declared.link.Link.{Link}
+use Rattle.paper.specs.declared.link.Linked.{Linked}
 use Rattle.paper.specs.declared.job.Job.{Job}
 use Rattle.paper.specs.declared.job.Begun.{Begun}
 use Rattle.paper.specs.declared.job.Step.{Step}
@@ -21,9 +23,10 @@ use Rattle.paper.specs.declared.job.Step.the-variants as step
 use Rattle.paper.specs.declared.job.Stepped.{Stepped}
 use Rattle.paper.specs.Refusals.{openedSays, listedSays, spanSays, takenSays, askedSays, stepSays}
 use Rattle.paper.specs.Sizes.{sizesOf}
+use Rattle.paper.specs.Link.{takeOf, takeRow, finishOf}
 use Rattle.paper.specs.Step.{agrees, hasLeft, stepFile, stepJob, stepAnswer}
 use Rattle.paper.proofs.Answers.{opened-only, listed-only, span-only, taken-only, asked-only, step-only}
-use Rattle.sdd.specs.Face.{openedC, listedC, askedC, spanC, foundC, jobC, jobOf, begunC, steppedC, toldOf, beside, flagTests, flagged, stepC, stepFileC, OpenedSmall, TakenSmall, SpanSmall, ListedSmall, AskedSmall, StepSmall}
+use Rattle.sdd.specs.Face.{openedC, listedC, askedC, spanC, foundC, jobC, jobOf, begunC, linkedC, steppedC, toldOf, beside, flagTests, flagged, stepC, stepFileC, OpenedSmall, TakenSmall, SpanSmall, ListedSmall, AskedSmall, StepSmall}
 use Rattle.sdd.specs.declared.face.CJob.{CJob}
 use Rattle.sdd.specs.declared.face.CStepped.{CStepped}
 use Rattle.sdd.specs.declared.jobs.Told.{Told}
@@ -60,6 +63,20 @@ found-face a b e h = rw (taken-only (a .answer) (b .answer) e, h)
 
 pub begun-face : (a b : Begun) → takenSays (a .answer) ≡ takenSays (b .answer) → a .job ≡ b .job → begunC a ≡ begunC b
 begun-face a b e h = rw (taken-only (a .answer) (b .answer) e, h)
+
+pub linked-face : (a b : Linked) → takenSays (a .answer) ≡ takenSays (b .answer) → a .link ≡ b .link → linkedC a ≡ linkedC b
+linked-face a b e h = rw (taken-only (a .answer) (b .answer) e, h)
+
+-- a link that stands for the numbers k
+module _ (j k : Link) where
+  pub taken-stood : (p row : List ℕ) (r : Linked) (next : List ℕ) → j ≡ k
+      → (takenSays (r .answer) ≡ takenSays (takeOf j p row .answer)) × ((r .link ≡ takeOf j p row .link) × (next ≡ takeRow j p row))
+      → (takenSays (r .answer) ≡ takenSays (takeOf k p row .answer)) × ((r .link ≡ takeOf k p row .link) × (next ≡ takeRow k p row))
+  taken-stood p row r next e h =
+      subst (λ (x : Link). (takenSays (r .answer) ≡ takenSays (takeOf x p row .answer)) × ((r .link ≡ takeOf x p row .link) × (next ≡ takeRow x p row))) e h
+
+  pub finish-stood : (row : List ℕ) (r : Opened) → j ≡ k → openedSays r ≡ openedSays (finishOf j row) → openedSays r ≡ openedSays (finishOf k row)
+  finish-stood row r e h = subst (λ (x : Link). openedSays r ≡ openedSays (finishOf x row)) e h
 
 -- ---- a step
 

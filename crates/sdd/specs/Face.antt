@@ -17,6 +17,8 @@ use Rattle.paper.specs.declared.answer.Taken.the-variants as taken
 use Rattle.paper.specs.declared.answer.Asked.{Asked}
 use Rattle.paper.specs.declared.answer.Asked.the-variants as asked
 use Rattle.paper.specs.declared.entry.Found.{Found}
+use Rattle.paper.specs.declared.link.Link.{Link}
+use Rattle.paper.specs.declared.link.Linked.{Linked}
 use Rattle.paper.specs.declared.job.Job.{Job}
 use Rattle.paper.specs.declared.job.Begun.{Begun}
 use Rattle.paper.specs.declared.job.Step.{Step}
@@ -33,6 +35,8 @@ use Rattle.sdd.specs.declared.face.CEntry.{CEntry}
 use Rattle.sdd.specs.declared.face.CJob.{CJob}
 use Rattle.sdd.specs.declared.face.CBegun.{CBegun}
 use Rattle.sdd.specs.declared.face.CStepped.{CStepped}
+use Rattle.sdd.specs.declared.face.CLink.{CLink}
+use Rattle.sdd.specs.declared.face.CLinked.{CLinked}
 use Rattle.sdd.specs.declared.jobs.Told.{Told}
 
 abbrev pub none : Why
@@ -135,6 +139,15 @@ jobOf c =
 
 abbrev pub begunC : Begun → CBegun
 begunC b = record { why = takenC (b .answer); job = jobC (b .job) }
+
+abbrev pub linkC : Link → CLink
+linkC k = record { span = k .span; came = k .came; ends = k .ends; boot = k .boot }
+
+abbrev pub linkOf : CLink → Link
+linkOf c = record { span = c .span; came = c .came; ends = c .ends; boot = c .boot }
+
+abbrev pub linkedC : Linked → CLinked
+linkedC l = record { why = takenC (l .answer); link = linkC (l .link) }
 
 -- what was done (0 wrote a record, 1 Saved, 2 Cleared), the record and the count
 abbrev pub toldDone : ℕ → ℕ → ℕ → Told

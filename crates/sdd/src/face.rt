@@ -93,3 +93,18 @@ pub struct CStepped {
     pub written: u64,
     pub job: CJob,
 }
+
+// A verdict under way: boot, length, came and index_end. The array stands first, so that in an answer each part lies where a copy of the link reads it.
+#[repr(C)]
+pub struct CLink {
+    pub boot: [u8; 32],
+    pub span: u64,
+    pub came: u64,
+    pub ends: u64,
+}
+
+#[repr(C)]
+pub struct CLinked {
+    pub why: Why,
+    pub link: CLink,
+}

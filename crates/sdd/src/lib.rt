@@ -3,5 +3,6 @@ pub mod face;
 pub mod forms;
 pub mod jobs;
 pub mod kinds;
+pub mod links;
 pub mod looks;
 pub mod whys;

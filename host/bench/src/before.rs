@@ -6,7 +6,7 @@
 use crate::case::Case;
 use crate::clock::{Contender, Spread, contest, turns};
 use crate::{suite, table};
-use face::{Answer, Calls, Listed, Refusal};
+use face::{Answer, Calls, Link, Linked, Listed, Opened, Refusal};
 use libc::{RTLD_LOCAL, RTLD_NOW, c_void, dlopen, dlsym};
 use std::cell::RefCell;
 use std::ffi::CString;
@@ -48,6 +48,19 @@ unsafe extern "C" fn not_searched(_: *const u8, _: usize, _: *mut u64, _: usize)
     unreachable!("the library has no such call")
 }
 
+/// The same for those of the link.
+unsafe extern "C" fn not_begun(_: u64, _: *mut u32, _: usize) -> Linked {
+    unreachable!("the library has no such call")
+}
+
+unsafe extern "C" fn not_taken(_: Link, _: *const u8, _: usize, _: *mut u32, _: usize) -> Linked {
+    unreachable!("the library has no such call")
+}
+
+unsafe extern "C" fn not_finished(_: Link, _: *const u32, _: usize) -> Opened {
+    unreachable!("the library has no such call")
+}
+
 /// The calls of a shared object. An earlier library may answer with fewer fields: it is given memory for all of today's.
 /// Of what it answers `why`, `done` and `first` are looked at, which stand where they always did. Its job goes back to it
 /// byte for byte as it came, and it takes of that as many bytes as its own job has; so a shorter job does no harm.
@@ -78,6 +91,9 @@ fn load(path: &str) -> Calls {
         to_old: not_there,
         gaps_zero: not_asked,
         find: not_searched,
+        link_begin: not_begun,
+        link_take: not_taken,
+        link_finish: not_finished,
     }
 }
 

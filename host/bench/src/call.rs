@@ -1,6 +1,7 @@
 //! The calls that are measured, as the library and plain Rust make them.
 
 use crate::file::{File, Fill, M};
+use crate::link::{Lending, Part, Piece};
 use crate::map::Map;
 use face::{Answer, Calls, Job, Listed, Opened, Refusal, Stepped};
 use std::fmt;
@@ -45,6 +46,10 @@ pub enum Call {
     /// Bootstrap and index into a second buffer of N records, in the current form or in the old one.
     ToCurrent,
     ToOld,
+    /// The verdict on what comes in pieces of 512 bytes, from its beginning to its end.
+    Link(Part),
+    /// One piece of it.
+    Take(Piece),
 }
 
 impl Call {
@@ -90,6 +95,8 @@ impl fmt::Display for Call {
             Call::ClearMiddle => f.write_str("clear middle"),
             Call::ToCurrent => f.write_str("to_current"),
             Call::ToOld => f.write_str("to_old"),
+            Call::Link(part) => part.fmt(f),
+            Call::Take(piece) => piece.fmt(f),
         }
     }
 }
@@ -103,6 +110,8 @@ pub struct Stage {
     finds: Vec<u64>,
     /// The second buffer of a conversion, which has N records; of any other call it is not used.
     pub second: Map,
+    /// What the verdict on pieces works in.
+    pub lending: Lending,
     /// The slot of a job.
     slot: usize,
     /// Record 1 and that slot's entry, as they are before the job.
@@ -127,8 +136,9 @@ impl Stage {
             Call::SaveNext(_) => file.plan.used + 1,
             _ => file.plan.slots,
         };
-        let finds = vec![0; 3 * 4096];
-        let mut stage = Stage { file, scan, out, finds, second, slot, boot: [0; 32], entry: [0; M], old: 0..0 };
+        let (finds, lending) = (vec![0; 3 * 4096], Lending::at_start());
+        let (boot, entry) = ([0; 32], [0; M]);
+        let mut stage = Stage { file, scan, out, finds, second, lending, slot, boot, entry, old: 0..0 };
         if matches!(call, Call::Clear(_)) {
             let saved = stage.save(&plain::calls());
             assert!(saved.done == 1, "no scan to clear: {:?}", saved.why);
@@ -138,6 +148,9 @@ impl Stage {
         }
         if let Call::Find(what) = call {
             stage.file.fill(what);
+        }
+        if let Call::Take(piece) = call {
+            stage.lending.come_to(&stage.file, piece);
         }
         if call.is_job() {
             stage.old = stage.file.records(stage.slot);
@@ -192,6 +205,8 @@ impl Stage {
                     self.undo();
                 }
                 Call::ToCurrent | Call::ToOld => _ = black_box(self.convert(calls, call)),
+                Call::Link(part) => _ = black_box(self.lending.judge(calls, &self.file, part)),
+                Call::Take(_) => _ = black_box(self.lending.take_piece(calls, &self.file)),
             }
         }
     }

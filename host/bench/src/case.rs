@@ -4,6 +4,7 @@ use crate::call::{Call, Stage};
 use crate::clock::{Contender, Spread, contest, turns};
 use crate::file::{File, Fill, Form, M, Plan};
 use crate::limit;
+use crate::link::handed_back;
 use face::Calls;
 use std::cell::RefCell;
 use std::hint::black_box;
@@ -25,7 +26,8 @@ pub struct Times {
     pub library: f64,
     pub plain: f64,
     /// The decoding passes that the call cannot do without, and one copy of the scan, one fill of N records or of the old
-    /// scan's, or one pass of C's memcmp over the gaps; of a search one look at each data record.
+    /// scan's, or one pass of C's memcmp over the gaps; of a search one look at each data record; of a piece of a file
+    /// that comes in pieces a call that hands the link back.
     pub limit: f64,
     /// An open of the same file by the library.
     pub open: f64,
@@ -52,7 +54,7 @@ impl Case {
     /// How often a call judges the index: at its beginning, and a whole job once more when it is confirmed.
     fn judgements(&self) -> usize {
         match self.call {
-            Call::Blank | Call::Find(_) => 0,
+            Call::Blank | Call::Find(_) | Call::Take(_) => 0,
             job if job.is_job() => 2,
             _ => 1,
         }
@@ -81,6 +83,15 @@ impl Case {
             let fine = found[0] == found[1] && found[0].0.scans == scans as u64 && found[0].0.why.number == 0;
             assert!(fine, "{}: {:?} and {:?}, and {scans} scans are there", self.name(), found[0].0, found[1].0);
         }
+        if let Call::Link(part) = self.call {
+            let judged = [library, plain].map(|calls| stage.lending.judged(calls, &stage.file, part));
+            assert!(judged[0] == judged[1], "{}: the two do not judge the same", self.name());
+            assert_eq!(judged[0].0, stage.opened(plain), "{}: the verdict is not the file's", self.name());
+        }
+        if let Call::Take(_) = self.call {
+            let taken = [library, plain].map(|calls| stage.lending.taken(calls, &stage.file));
+            assert!(taken[0] == taken[1], "{}: the two do not take the same", self.name());
+        }
         if self.call.is_job() {
             let done = [library, plain].map(|calls| stage.done(calls, self.call));
             assert_eq!(done[0], done[1], "{}: the two do not end the same", self.name());
@@ -99,6 +110,7 @@ impl Case {
             Call::Blank => file[..self.plan.n() * l].fill(0),
             Call::Gaps => assert!(limit::zeros(file, l, gaps)),
             Call::ToCurrent | Call::ToOld => stage.second.bytes().fill(0),
+            Call::Take(_) => _ = black_box(handed_back(black_box(stage.lending.link))),
             _ => {
                 file[place..place + copied.len()].copy_from_slice(copied);
                 file[stage.old.clone()].fill(0);
@@ -135,9 +147,11 @@ impl Case {
                 assert!(limit::same(file, place, &copied));
             }),
         ];
-        if !matches!(self.call, Call::Save(_)) {
-            contenders.truncate(3);
-        }
+        contenders.truncate(match self.call {
+            Call::Save(_) => 5,
+            Call::Link(_) => 4,
+            _ => 3,
+        });
         let least = contest(&mut contenders, budget);
         let more = |i: usize| least.get(i).copied().unwrap_or(f64::NAN);
         Times { library: least[0], plain: least[1], limit: least[2], open: more(3), copies: more(4) }
@@ -159,6 +173,12 @@ impl Line {
     /// The library's time over plain Rust's.
     pub fn beside_plain(&self) -> Spread {
         self.spread(|t| t.library / t.plain)
+    }
+
+    /// The library's time over that of an open of the same file, where that was taken.
+    pub fn beside_open(&self) -> Option<Spread> {
+        let spread = self.spread(|t| t.library / t.open);
+        (!spread.middle.is_nan()).then_some(spread)
     }
 
     /// The library's time over the limit.

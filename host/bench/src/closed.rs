@@ -3,6 +3,7 @@
 
 use crate::call::{Call, Stage};
 use crate::file::{File, Fill, Form, M, Order, Plan};
+use crate::link::Part;
 use crate::suite::{self, MOST, OLD_RUN};
 use face::Calls;
 use std::process::Command;
@@ -35,7 +36,7 @@ fn convert(calls: &Calls, call: Call, form: Form, order: Order) {
 
 /// Makes every call with closed pages: all data records for the calls that need none of them, all but the first of its
 /// own for a read, all but its own and the old scan's for a job, all but the gaps for the question of these; for the search
-/// without an index the index, and all but the first record of each scan.
+/// without an index the index, and all but the first record of each scan; and for a file that comes in pieces all data.
 pub fn make(calls: &Calls) {
     let needs_none = [
         Call::Open,
@@ -68,8 +69,22 @@ pub fn make(calls: &Calls) {
         for form in Form::ALL {
             gaps(calls, order, form);
             find(calls, order, form);
+            link(calls, order, form);
         }
     }
+}
+
+/// A file that comes in pieces of 512 bytes, and one that comes as one piece, with all data records closed: these are
+/// passed over unseen.
+fn link(calls: &Calls, order: Order, form: Form) {
+    let plan = Plan { used: 4000, room: 16_384, form, ..suite::old(order, 2) };
+    let mut stage = Stage::new(File::new(plan), Call::Link(Part::Whole));
+    let opened = stage.opened(calls);
+    close_data(&stage);
+    let Stage { lending, file, .. } = &mut stage;
+    assert!(lending.judge(calls, file, Part::Whole) == opened, "the verdict is not the file's");
+    let link = lending.take_whole(calls, file);
+    assert!(lending.finish(calls, link) == opened, "the verdict is not the file's");
 }
 
 /// A whole job with all records closed but those that it writes its scan to, and those of the scan that the slot had.

@@ -13,6 +13,7 @@ pub mod closed;
 pub mod file;
 pub mod grow;
 pub mod limit;
+pub mod link;
 pub mod map;
 pub mod stack;
 pub mod suite;

@@ -2,6 +2,7 @@
 
 use crate::call::{Call, Stage};
 use crate::file::{File, Fill, Form, M, Order, Plan};
+use crate::link::{Part, Piece};
 use crate::map::Map;
 use crate::suite::{self, MOST, OLD_RUN};
 use face::Calls;
@@ -87,7 +88,28 @@ pub fn depths(calls: &Calls) -> Vec<Depth> {
     let saves = deepest(Call::Replace(65_536), &|stage| depth(&mut stage.steps_of_save(calls)));
     let clears = deepest(Call::Clear(65_536), &|stage| depth(&mut stage.steps_of_clear(calls)));
     depths.push(Depth { name: "step", bytes: saves.max(clears) });
+    depths.extend(links(calls));
     depths
+}
+
+/// The same of the three calls for a file that comes in pieces.
+fn links(calls: &Calls) -> [Depth; 3] {
+    let whole = Call::Link(Part::Whole);
+    let begin = deepest(whole, &|Stage { lending, file, .. }| depth(&mut || _ = black_box(lending.begin(calls, file))));
+    // all of it as one piece, and a single byte
+    let one = deepest(whole, &|Stage { lending, file, .. }| {
+        let link = lending.begin(calls, file);
+        depth(&mut || _ = black_box(lending.take(calls, file, link, 0, file.map.size())))
+    });
+    let byte = deepest(Call::Take(Piece::Number), &|Stage { lending, file, .. }| {
+        depth(&mut || _ = black_box(lending.take_piece(calls, file)))
+    });
+    let finish = deepest(whole, &|Stage { lending, file, .. }| {
+        let link = lending.take_whole(calls, file);
+        depth(&mut || _ = black_box(lending.finish(calls, link)))
+    });
+    [("link_begin", begin), ("link_take", one.max(byte)), ("link_finish", finish)]
+        .map(|(name, bytes)| Depth { name, bytes })
 }
 
 /// The most that is measured, over files in every order and of both forms; no job runs on an old one.

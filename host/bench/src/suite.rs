@@ -3,6 +3,7 @@
 use crate::call::Call;
 use crate::case::Case;
 use crate::file::{Fill, Form, M, Order, Plan};
+use crate::link::{PIECE, Part, Piece};
 
 /// The most records that a file has.
 pub const MOST: usize = 1_000_000;
@@ -106,6 +107,31 @@ fn finds() -> Vec<Case> {
     ]
 }
 
+/// A file of which every record is in use, with scans of one record in all slots.
+fn whole(slots: usize, order: Order, form: Form) -> Plan {
+    Plan { room: slots / 8 + 1 + slots, form, ..full(slots, order, 1) }
+}
+
+/// Files that come in pieces of 512 bytes, as a whole and up to the end of the index; and single pieces: of one byte, and
+/// of data, a short and a long one.
+fn links() -> Vec<Case> {
+    let plans = [
+        whole(4096, Order::Rising, Form::Current),
+        whole(4096, Order::Random, Form::Current),
+        whole(4096, Order::Rising, Form::Old),
+        whole(4096, Order::Random, Form::Old),
+        whole(1024, Order::Rising, Form::Current),
+        whole(8, Order::Rising, Form::Current),
+    ];
+    let parts = [Part::Whole, Part::Index];
+    let files = parts.into_iter().flat_map(|part| plans.map(|plan| case(Call::Link(part), plan)));
+    let pieces = [Piece::Number, Piece::Passed, Piece::Data(PIECE), Piece::Data(LONG_PIECE)];
+    files.chain(pieces.map(|piece| case(Call::Take(piece), plans[0]))).collect()
+}
+
+/// A piece of data that is long.
+pub const LONG_PIECE: usize = 1 << 20;
+
 /// Whole jobs: 1,000 records of which few are used, 100,000 and 1,000,000 with an index that is nearly full.
 fn jobs(orders: &[Order], sizes: &[usize]) -> Vec<Case> {
     let mut cases = Vec::new();
@@ -144,11 +170,11 @@ pub fn before() -> Vec<Case> {
 pub fn all() -> Vec<Case> {
     let orders = [Order::Rising, Order::Random];
     let jobs = jobs(&orders, &[512, 4_096, 65_536]);
-    [opens(1024), opens(4096), looks(), olds(), moves(), gaps(&orders), finds(), jobs].concat()
+    [opens(1024), opens(4096), looks(), olds(), moves(), gaps(&orders), finds(), links(), jobs].concat()
 }
 
 /// Those that the verdicts rest on most.
 pub fn quick() -> Vec<Case> {
     let orders = [Order::Rising, Order::Random];
-    [opens(4096), looks(), olds(), moves(), gaps(&orders[..1]), finds(), jobs(&orders, &[65_536])].concat()
+    [opens(4096), looks(), olds(), moves(), gaps(&orders[..1]), finds(), links(), jobs(&orders, &[65_536])].concat()
 }

@@ -14,8 +14,10 @@ pub fn fine_ratio(spread: Spread) -> String {
     format!("{:.3} ({:.3} to {:.3})", spread.middle, spread.low, spread.high)
 }
 
+/// Microseconds; of a call that takes next to none of them, with two digits more.
 fn time(spread: Spread) -> String {
-    format!("{:.2}", spread.middle)
+    let digits = if spread.middle < 0.1 { 4 } else { 2 };
+    format!("{:.digits$}", spread.middle)
 }
 
 /// Rows with their columns as wide as they need to be.
@@ -49,10 +51,11 @@ pub fn print_lines(lines: &[Line]) {
                 time(line.spread(|times| times.limit)),
                 ratio(line.beside_plain()),
                 ratio(line.beside_limit()),
+                line.beside_open().map_or_else(String::new, ratio),
             ]
         })
         .collect();
-    print(&["call", "file", "library µs", "plain µs", "limit µs", "to plain", "to limit"], &rows);
+    print(&["call", "file", "library µs", "plain µs", "limit µs", "to plain", "to limit", "to open"], &rows);
 }
 
 /// The growths.

@@ -4,6 +4,8 @@ use crate::call::Call;
 use crate::case::{Line, Times};
 use crate::file::{Form, Order};
 use crate::grow::Growth;
+use crate::link::{PIECE, Part, Piece};
+use crate::suite::LONG_PIECE;
 use crate::table;
 
 /// A target's verdict.
@@ -61,6 +63,57 @@ fn is_find(line: &Line) -> bool {
     matches!(line.case.call, Call::Find(_))
 }
 
+/// Whether a line is of a file that comes in pieces, in either form; and whether it is of one piece alone.
+fn is_link(line: &Line) -> bool {
+    matches!(line.case.call, Call::Link(_))
+}
+
+fn is_piece(line: &Line) -> bool {
+    matches!(line.case.call, Call::Take(_))
+}
+
+/// Whether a line has a limit of its own beside plain Rust.
+fn is_apart(line: &Line) -> bool {
+    is_move(line) || is_find(line) || is_link(line) || is_piece(line)
+}
+
+/// What all calls for a file that comes in pieces may take, times an open of that file.
+const LINK_LIMIT: f64 = 4.0;
+/// What a piece of one byte may take, in microseconds.
+const BYTE_LIMIT: f64 = 0.1;
+
+/// A long piece of data beside a short one: it is to cost no more, but for what the clock makes of it.
+fn long_piece(lines: &[Line]) -> Verdict {
+    let time = |bytes| {
+        let line = lines.iter().find(|line| line.case.call == Call::Take(Piece::Data(bytes)));
+        line.map_or(f64::NAN, |line| line.spread(|times| times.library).middle)
+    };
+    Verdict {
+        target: "a piece of 1 MiB of data over one of 512 bytes",
+        value: time(LONG_PIECE) / time(PIECE),
+        limit: 1.1,
+        place: "link take".to_string(),
+    }
+}
+
+/// The worst of these lines beside an open of the same file.
+fn over_open<'a>(target: &'static str, lines: impl Iterator<Item = &'a Line>) -> Verdict {
+    worst(target, LINK_LIMIT, lines, |line| line.spread(|times| times.library / times.open).middle)
+}
+
+/// The verdicts on a file that comes in pieces.
+fn links(lines: &[Line]) -> [Verdict; 4] {
+    let of = |kind: fn(&Line) -> bool| lines.iter().filter(move |line| kind(line));
+    let part = |part| of(is_link).filter(move |line| line.case.call == Call::Link(part));
+    let bytes = of(is_piece).filter(|line| !matches!(line.case.call, Call::Take(Piece::Data(_))));
+    [
+        over_plain("bootstrap and index in pieces of 512 bytes over plain Rust", part(Part::Index)),
+        over_open("bootstrap and index in such pieces over an open of the file", part(Part::Index)),
+        worst("a piece of one byte, µs", BYTE_LIMIT, bytes, |line| line.spread(|times| times.library).middle),
+        long_piece(lines),
+    ]
+}
+
 /// Whether a line is of the old form.
 fn is_old(line: &Line) -> bool {
     line.case.plan.form == Form::Old
@@ -98,14 +151,11 @@ pub fn verdicts(lines: &[Line], growths: &[Growth], stack: usize, left_alone: bo
     let opens = || of(&is_full_open);
     let saves = of(&|line| matches!(line.case.call, Call::Save(_)));
     let (exponent, what) = steepest(growths);
-    vec![
+    let mut verdicts = vec![
         over_limit("open of a full index, rising, over the decoding pass", 2.5, opens().filter(|line| rises(line))),
         over_limit("open of a full index, any other order, the same", 6.0, opens().filter(|line| !rises(line))),
-        over_plain("any line over plain Rust", of(&|line| !is_move(line) && !is_find(line) && !is_old(line))),
-        over_plain(
-            "any line of the old form over plain Rust",
-            of(&|line| !is_move(line) && !is_find(line) && is_old(line)),
-        ),
+        over_plain("any line over plain Rust", of(&|line| !is_apart(line) && !is_old(line))),
+        over_plain("any line of the old form over plain Rust", of(&|line| !is_apart(line) && is_old(line))),
         over_plain("any conversion over plain Rust", of(&is_move)),
         over_plain("any search without the index over plain Rust", of(&is_find)),
         over_limit("the question of the gaps over one pass of memcmp", GAPS_LIMIT, of(&is_gaps)),
@@ -125,7 +175,9 @@ pub fn verdicts(lines: &[Line], growths: &[Growth], stack: usize, left_alone: bo
             limit: sdd::stack::MOST as f64 / 1024.0,
             place: "any call".to_string(),
         },
-    ]
+    ];
+    verdicts.extend(links(lines));
+    verdicts
 }
 
 /// Prints them.

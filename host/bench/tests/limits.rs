@@ -34,7 +34,7 @@ fn the_search_without_the_index_grows_with_the_records_and_no_faster() {
 #[test]
 fn every_call_keeps_to_the_stack_that_is_said_of_it() {
     let measured = stack::depths(&sdd::calls());
-    assert_eq!(measured.iter().map(|depth| depth.name).collect::<std::collections::BTreeSet<_>>().len(), 16);
+    assert_eq!(measured.iter().map(|depth| depth.name).collect::<std::collections::BTreeSet<_>>().len(), 19);
     for (name, most) in sdd::stack::ALL {
         let depth = measured.iter().find(|depth| depth.name == name).expect("every call is measured").bytes;
         assert!(depth <= most, "sdd_{name} uses {depth} bytes of stack, and {most} are said to be enough");

@@ -1,7 +1,8 @@
 //! A call with its arguments, its answer as the face gives it, and what the model expects.
 
-use face::{Answer as YesNo, Begun, Entry, Job, Listed, Opened, Refusal, Span, Stepped};
-use model::Write;
+use face::{Answer as YesNo, Begun, Entry, Job, Link, Linked, Listed, Opened, Refusal, Span, Stepped};
+use model::{Sizes, Write};
+use std::collections::BTreeMap;
 
 /// What is lent to a call: as it is before, or as it should be after it.
 #[allow(missing_docs)]
@@ -12,9 +13,13 @@ pub struct Lent<'a> {
     pub about: &'a model::About,
     /// The second buffer, which a conversion writes into.
     pub second: &'a [u8],
+    /// The piece of a file that comes over the link.
+    pub piece: &'a [u8],
+    /// The working row of a verdict over the link.
+    pub working: &'a [u32],
 }
 
-/// One of the sixteen calls; what it is lent is the world's.
+/// One of the nineteen calls; what it is lent is the world's.
 #[allow(missing_docs)]
 #[derive(Clone, Copy, Debug)]
 pub enum Call {
@@ -34,10 +39,13 @@ pub enum Call {
     ToOld,
     GapsZero,
     Find { out_len: usize },
+    LinkBegin { length: u64 },
+    LinkTake { link: Link },
+    LinkFinish { link: Link },
 }
 
 /// The names of the calls, in the header's order.
-pub const NAMES: [&str; 16] = [
+pub const NAMES: [&str; 19] = [
     "open",
     "list",
     "entry",
@@ -54,6 +62,9 @@ pub const NAMES: [&str; 16] = [
     "to_old",
     "gaps_zero",
     "find",
+    "link_begin",
+    "link_take",
+    "link_finish",
 ];
 
 impl Call {
@@ -76,6 +87,9 @@ impl Call {
             Call::ToOld => 13,
             Call::GapsZero => 14,
             Call::Find { .. } => 15,
+            Call::LinkBegin { .. } => 16,
+            Call::LinkTake { .. } => 17,
+            Call::LinkFinish { .. } => 18,
         }
     }
 
@@ -101,6 +115,7 @@ pub enum Answer {
     Begun(Begun),
     Stepped(Stepped),
     YesNo(YesNo),
+    Linked(Linked),
 }
 
 impl Answer {
@@ -115,6 +130,7 @@ impl Answer {
             Answer::Begun(a) => a.why,
             Answer::Stepped(a) => a.why,
             Answer::YesNo(a) => a.why,
+            Answer::Linked(a) => a.why,
         }
     }
 
@@ -139,6 +155,7 @@ impl Answer {
                 put_job(&mut all, &a.job);
             }
             Answer::YesNo(a) => put8(&mut all, &[a.yes]),
+            Answer::Linked(a) => put_link(&mut all, &a.link),
         }
         all
     }
@@ -158,6 +175,12 @@ pub fn put_job(all: &mut Vec<u8>, job: &Job) {
     put8(all, &[job.old_first, job.old_count]);
     all.extend(job.boot);
     all.extend(job.about);
+}
+
+/// A link's fields, likewise.
+pub fn put_link(all: &mut Vec<u8>, link: &Link) {
+    put8(all, &[link.length, link.came, link.index_end]);
+    all.extend(link.boot);
 }
 
 fn put_entry(all: &mut Vec<u8>, a: &Entry) {
@@ -183,20 +206,22 @@ pub struct Expected {
     pub out: Vec<u64>,
     /// The change of the second buffer, if any.
     pub converted: Option<Write>,
+    /// The elements of the working row that are written, with what they hold afterwards.
+    pub worked: BTreeMap<usize, u32>,
 }
 
 impl Expected {
     /// An answer that comes with no change of memory.
     fn only(answer: Answer) -> Expected {
-        Expected { answer, write: None, out: Vec::new(), converted: None }
+        Expected { answer, write: None, out: Vec::new(), converted: None, worked: BTreeMap::new() }
     }
 
     /// Asks the model.
     pub fn of(call: &Call, lent: &Lent) -> Expected {
-        let Lent { file, scan, about, second } = *lent;
+        let Lent { file, scan, about, second, piece, working } = *lent;
         let only = Expected::only;
         match *call {
-            Call::Open => only(Answer::Opened(opened(file))),
+            Call::Open => only(opened(model::open(file), file.len() as u64)),
             Call::List { out_len } => {
                 listed(model::list(file, out_len).map(|out| out.into_iter().map(u64::from).collect()))
             }
@@ -214,6 +239,9 @@ impl Expected {
             Call::ToOld => converted(model::to_old(file, second.len())),
             Call::GapsZero => only(Answer::YesNo(yes_or_no(model::gaps_zero(file)))),
             Call::Find { out_len } => listed(model::find(file, out_len)),
+            Call::LinkBegin { length } => only(link_begun(model::begin(length, working.len()))),
+            Call::LinkTake { link } => link_taken(link, piece, working),
+            Call::LinkFinish { link } => only(opened(model::finish(&link_to_model(&link), working), link.length)),
         }
     }
 }
@@ -222,8 +250,9 @@ fn refusal(why: model::Refusal) -> Refusal {
     Refusal { number: why.number, value: why.value }
 }
 
-fn opened(file: &[u8]) -> Opened {
-    match model::open(file) {
+/// The judgement of a file of so many bytes.
+pub fn opened(judged: model::Answer<Sizes>, file_len: u64) -> Answer {
+    Answer::Opened(match judged {
         Err(why) => Opened { why: refusal(why), ..Opened::ZEROS },
         Ok(z) => Opened {
             why: Refusal::NONE,
@@ -235,13 +264,13 @@ fn opened(file: &[u8]) -> Opened {
             counter: z.counter,
             kind: z.kind,
             capacity: z.capacity(),
-            room: model::room(file.len() as u64, &z),
+            room: model::room(file_len, &z),
             version: match z.form {
                 model::Form::Old => 0,
                 model::Form::Current => 1,
             },
         },
-    }
+    })
 }
 
 /// A listing or a search: three elements for each scan.
@@ -352,4 +381,33 @@ fn to_face(job: &model::Job) -> Job {
 pub fn to_model(job: &Job) -> model::Job {
     let Job { saves, slot, scan_len, file_len, first, written, lowers, old_first, old_count, boot, about } = *job;
     model::Job { saves, slot, scan_len, file_len, first, written, lowers, old_first, old_count, boot, about }
+}
+
+/// A refused beginning "hands back a link of zeros".
+fn link_begun(answer: model::Answer<model::Link>) -> Answer {
+    Answer::Linked(match answer {
+        Err(why) => Linked { why: refusal(why), link: Link::ZEROS },
+        Ok(link) => Linked { why: Refusal::NONE, link: link_to_face(&link) },
+    })
+}
+
+/// A refused piece hands back "the link as it was".
+fn link_taken(link: Link, piece: &[u8], working: &[u32]) -> Expected {
+    match model::take(&link_to_model(&link), piece, working) {
+        Err(why) => Expected::only(Answer::Linked(Linked { why: refusal(why), link })),
+        Ok(taken) => {
+            let answer = Linked { why: Refusal::NONE, link: link_to_face(&taken.link) };
+            Expected { worked: taken.elements, ..Expected::only(Answer::Linked(answer)) }
+        }
+    }
+}
+
+fn link_to_face(link: &model::Link) -> Link {
+    let model::Link { length, came, index_end, boot } = *link;
+    Link { length, came, index_end, boot }
+}
+
+fn link_to_model(link: &Link) -> model::Link {
+    let Link { length, came, index_end, boot } = *link;
+    model::Link { length, came, index_end, boot }
 }

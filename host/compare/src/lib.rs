@@ -5,8 +5,8 @@
 //! guard pages, and the whole answer and all memory are compared. The cases
 //! come in themes; [`run`] mixes them from a seed.
 //!
-//! From the ground up: `rng` and `call`, `cases` and `tally` on `moves`, `used`, `gaps` and `finds`, `world` with its subjects (`linked` on
-//! `guarded`, `recorder`), `themes`, `run`. Apart from these, on `rng` alone, `lengths`.
+//! From the ground up: `rng` and `call`, `cases` and `tally` on `moves`, `used`, `gaps`, `finds` and `links`, `world` with its subjects
+//! (`linked` on `guarded`, `recorder`), `themes`, `run`. Apart from these, on `rng` alone, `lengths`.
 
 mod call;
 mod cases;
@@ -15,6 +15,7 @@ mod gaps;
 mod guarded;
 mod lengths;
 mod linked;
+mod links;
 mod moves;
 mod recorder;
 mod rng;

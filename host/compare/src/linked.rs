@@ -20,6 +20,8 @@ pub struct Linked {
     scan: Guarded,
     about: Guarded,
     second: Guarded,
+    piece: Guarded,
+    working: Guarded,
     /// Where nothing is lent the pointer may be anything: sometimes it is null.
     nulls: bool,
 }
@@ -28,7 +30,8 @@ impl Linked {
     /// By its calls.
     pub fn new(calls: Calls) -> Linked {
         let none = || Guarded::zeros(0, Side::Right);
-        Linked { calls, file: none(), scan: none(), about: none(), second: none(), nulls: false }
+        let (file, scan, about, second, piece, working) = (none(), none(), none(), none(), none(), none());
+        Linked { calls, file, scan, about, second, piece, working, nulls: false }
     }
 
     fn pointer(nulls: bool, memory: &mut Guarded) -> *mut u8 {
@@ -38,11 +41,14 @@ impl Linked {
     /// Makes the call.
     fn make(&mut self, call: &Call, out: &mut Guarded) -> Answer {
         let (file_len, scan_len) = (self.file.bytes().len(), self.scan.bytes().len());
-        let second_len = self.second.bytes().len();
+        let (second_len, piece_len) = (self.second.bytes().len(), self.piece.bytes().len());
+        let row_len = self.working.bytes().len() / size_of::<u32>();
         let file = Linked::pointer(self.nulls, &mut self.file);
         let scan = Linked::pointer(self.nulls, &mut self.scan);
         let out_at = Linked::pointer(self.nulls, out);
         let second = Linked::pointer(self.nulls, &mut self.second);
+        let piece = Linked::pointer(self.nulls, &mut self.piece);
+        let row = Linked::pointer(self.nulls, &mut self.working).cast();
         let about = self.about.pointer();
         let calls = &self.calls;
         // SAFETY: every pointer comes with the length of the memory behind it, which this subject
@@ -65,6 +71,9 @@ impl Linked {
                 Call::ToOld => Answer::Refusal((calls.to_old)(file, file_len, second, second_len)),
                 Call::GapsZero => Answer::YesNo((calls.gaps_zero)(file, file_len)),
                 Call::Find { out_len } => Answer::Listed((calls.find)(file, file_len, out_at.cast(), out_len)),
+                Call::LinkBegin { length } => Answer::Linked((calls.link_begin)(length, row, row_len)),
+                Call::LinkTake { link } => Answer::Linked((calls.link_take)(link, piece, piece_len, row, row_len)),
+                Call::LinkFinish { link } => Answer::Opened((calls.link_finish)(link, row, row_len)),
             }
         }
     }
@@ -99,6 +108,16 @@ impl Subject for Linked {
         self.second = Guarded::copy(second, side(rng));
     }
 
+    fn new_piece(&mut self, piece: &[u8], rng: &mut Rng) {
+        self.piece = Guarded::copy(piece, side(rng));
+    }
+
+    fn new_working(&mut self, working: &[u32], rng: &mut Rng) {
+        self.working = Guarded::zeros(size_of_val(working), side(rng));
+        let places = self.working.bytes_mut().chunks_exact_mut(size_of::<u32>());
+        places.zip(working).for_each(|(place, element)| place.copy_from_slice(&element.to_ne_bytes()));
+    }
+
     fn call(&mut self, call: &Call, expected: &Expected, held: &Lent) -> Result<(), String> {
         let mut out = self.out(call);
         let answer = self.make(call, &mut out);
@@ -114,7 +133,9 @@ impl Subject for Linked {
         same("the entry's bytes", self.about.bytes(), held.about)?;
         same("the second buffer", self.second.bytes(), held.second)?;
         same("the row of elements", out.bytes(), &wanted_row(call, expected))?;
-        let beside = [&self.file, &self.scan, &self.about, &self.second, &out];
+        same("the piece", self.piece.bytes(), held.piece)?;
+        same_row(self.working.bytes(), held.working)?;
+        let beside = [&self.file, &self.scan, &self.about, &self.second, &self.piece, &self.working, &out];
         if beside.into_iter().any(|memory| !memory.slack_stands()) {
             return Err("something was written beside what was lent".to_string());
         }
@@ -137,6 +158,17 @@ fn wanted_row(call: &Call, expected: &Expected) -> Vec<u8> {
         }
     }
     row
+}
+
+/// Whether the working row is as it should be.
+fn same_row(has: &[u8], wanted: &[u32]) -> Result<(), String> {
+    let has = has.chunks_exact(size_of::<u32>()).map(|element| u32::from_ne_bytes(element.try_into().unwrap()));
+    match has.zip(wanted).enumerate().find(|(_, (has, wanted))| has != *wanted) {
+        None => Ok(()),
+        Some((at, (has, wanted))) => {
+            Err(format!("the working row is not as it should be: element {at} is {has:#x} and not {wanted:#x}"))
+        }
+    }
 }
 
 fn side(rng: &mut Rng) -> Side {

@@ -10,19 +10,23 @@
 //! | S | len, bytes | a new scan |
 //! | A | 54 bytes | new bytes for the entry |
 //! | B | len, bytes | a new second buffer |
-//! | C | call, arguments, answer, writes, elements, converted | a call |
+//! | T | len, bytes | a new piece of a file, to be taken over the link |
+//! | R | len, elements | a new working row of so many 32-bit elements |
+//! | C | call, arguments, answer, writes, elements, converted, worked | a call |
 //! | E | | the end |
 //!
 //! All numbers are 64 bits, a call's number is a byte. A call's arguments are
 //! its numbers in the header's order (a list and a find: the length of `out`; a
-//! step: the job's fields). An answer is a length and the bytes of [`Answer::bytes`];
+//! step: the job's fields; a take and a finish: the link's). An answer is a length and the bytes of [`Answer::bytes`];
 //! the writes are a count and then place, length and bytes of each; the
 //! elements are a count and 32 bits each, of a find 64; what is converted is a
-//! length and the bytes that the second buffer then begins with.
+//! length and the bytes that the second buffer then begins with; what is worked is
+//! a count and then place and 32 bits of each element of the working row that is
+//! written.
 //!
 //! [`Answer::bytes`]: crate::call::Answer::bytes
 
-use crate::call::{Call, Expected, Lent, put_job};
+use crate::call::{Call, Expected, Lent, put_job, put_link};
 use crate::rng::Rng;
 use crate::world::Subject;
 use model::About;
@@ -71,6 +75,12 @@ impl<W: Write> Recorder<W> {
                 put_job(&mut fields, &job);
                 self.put(&fields);
             }
+            Call::LinkBegin { length } => self.number(length),
+            Call::LinkTake { link } | Call::LinkFinish { link } => {
+                let mut fields = Vec::new();
+                put_link(&mut fields, &link);
+                self.put(&fields);
+            }
         }
     }
 }
@@ -102,6 +112,17 @@ impl<W: Write> Subject for Recorder<W> {
         self.row(second);
     }
 
+    fn new_piece(&mut self, piece: &[u8], _: &mut Rng) {
+        self.put(b"T");
+        self.row(piece);
+    }
+
+    fn new_working(&mut self, working: &[u32], _: &mut Rng) {
+        self.put(b"R");
+        self.number(working.len() as u64);
+        working.iter().for_each(|element| self.put(&element.to_le_bytes()));
+    }
+
     fn call(&mut self, call: &Call, expected: &Expected, _: &Lent) -> Result<(), String> {
         self.put(b"C");
         self.put(&[call.number() as u8]);
@@ -116,6 +137,11 @@ impl<W: Write> Subject for Recorder<W> {
         let (_, width) = call.row();
         expected.out.iter().for_each(|element| self.put(&element.to_le_bytes()[..width]));
         self.row(expected.converted.as_ref().map_or(&[], |write| &write.bytes));
+        self.number(expected.worked.len() as u64);
+        for (at, element) in &expected.worked {
+            self.number(*at as u64);
+            self.put(&element.to_le_bytes());
+        }
         Ok(())
     }
 

@@ -1,15 +1,16 @@
 //! What was reached: calls, refusals and reasons, the refusals of old files once more by themselves, conversions, what
-//! jobs did to U, what became of their old runs and of the gaps, and what searches came upon.
+//! jobs did to U, what became of their old runs and of the gaps, what searches came upon, and verdicts over the link.
 
 use crate::call::{Answer, Call, Lent, NAMES};
 use crate::finds::Finds;
 use crate::gaps::Gaps;
+use crate::links::Links;
 use crate::moves::Moves;
 use crate::used::Used;
 use std::fmt;
 
 /// The numbers of refusals, and 0.
-const NUMBERS: usize = 20;
+const NUMBERS: usize = 21;
 
 /// What an old file can be answered with, by what is done with it: 0 is that the call is accepted.
 const OLD: [(&str, &[usize]); 3] = [
@@ -39,6 +40,8 @@ pub struct Tally {
     gaps: Gaps,
     /// What searches for scans came upon.
     finds: Finds,
+    /// What pieces over the link came to, and what was answered then.
+    links: Links,
 }
 
 /// Which of the rows of `OLD` a call counts for; none where the file's form does not matter to it.
@@ -51,6 +54,7 @@ fn old_row(call: &Call) -> Option<usize> {
         Call::Class { .. } | Call::Data | Call::Blank { .. } => None,
         // these have their own rows, for either form
         Call::ToCurrent | Call::ToOld => None,
+        Call::LinkBegin { .. } | Call::LinkTake { .. } | Call::LinkFinish { .. } => None,
     }
 }
 
@@ -75,6 +79,7 @@ impl Tally {
         self.used.count(call, answer, lent);
         self.gaps.count(call, answer, lent);
         self.finds.count(call, answer, old, lent);
+        self.links.count(call, answer, old, lent);
     }
 
     /// All calls.
@@ -97,7 +102,7 @@ impl Tally {
             self.calls.iter_mut().chain(&mut self.refusals).chain(&mut self.reasons).chain(&mut self.confirmed);
         let counts = counts.chain(self.old.iter_mut().flatten()).chain(self.moves.numbers_mut());
         let counts = counts.chain(self.used.numbers_mut()).chain(self.gaps.numbers_mut());
-        let counts = counts.chain(self.finds.numbers_mut());
+        let counts = counts.chain(self.finds.numbers_mut()).chain(self.links.numbers_mut());
         counts.zip(numbers).for_each(|(count, number)| *count += number);
         true
     }
@@ -105,11 +110,12 @@ impl Tally {
     fn numbers(&self) -> impl Iterator<Item = u64> {
         let counts = self.calls.iter().chain(&self.refusals).chain(&self.reasons).chain(&self.confirmed);
         let counts = counts.chain(self.old.iter().flatten()).chain(self.moves.numbers());
-        counts.chain(self.used.numbers()).chain(self.gaps.numbers()).chain(self.finds.numbers()).copied()
+        let counts = counts.chain(self.used.numbers()).chain(self.gaps.numbers()).chain(self.finds.numbers());
+        counts.chain(self.links.numbers()).copied()
     }
 
     /// Refusals, reasons and confirmations that no case reached, of an old file what it can be answered with, and of
-    /// conversions, of U, of gaps and of searches all that is counted.
+    /// conversions, of U, of gaps, of searches and of the link all that is counted.
     pub fn unreached(&self) -> Vec<String> {
         let mut missing = Vec::new();
         let mut look = |name: &str, counts: &[u64], from: usize| {
@@ -134,6 +140,8 @@ impl Tally {
         missing
             .extend(Finds::names().zip(self.finds.numbers()).filter(|(_, count)| **count == 0).map(|(name, _)| name));
         missing
+            .extend(Links::names().zip(self.links.numbers()).filter(|(_, count)| **count == 0).map(|(name, _)| name));
+        missing
     }
 }
 
@@ -141,7 +149,7 @@ impl fmt::Display for Tally {
     fn fmt(&self, f: &mut fmt::Formatter) -> fmt::Result {
         writeln!(f, "{} calls compared", self.cases())?;
         for (name, count) in NAMES.iter().zip(self.calls) {
-            writeln!(f, "  {name:<10} {count:>9}")?;
+            writeln!(f, "  {name:<11} {count:>9}")?;
         }
         writeln!(f, "answers")?;
         writeln!(
@@ -161,22 +169,24 @@ impl fmt::Display for Tally {
             let reached: Vec<String> = reached.map(|(number, count)| format!("{number}: {count}")).collect();
             writeln!(f, "{name} ({})", reached.join(", "))?;
         }
-        writeln!(f, "conversions")?;
-        for (name, count) in Moves::names().zip(self.moves.numbers()) {
-            writeln!(f, "  {count:>9}  {name}")?;
-        }
-        writeln!(f, "U")?;
-        for (name, count) in Used::names().zip(self.used.numbers()) {
-            writeln!(f, "  {count:>9}  {name}")?;
-        }
-        writeln!(f, "old runs and gaps")?;
-        for (name, count) in Gaps::names().zip(self.gaps.numbers()) {
-            writeln!(f, "  {count:>9}  {name}")?;
-        }
-        writeln!(f, "searches")?;
-        for (name, count) in Finds::names().zip(self.finds.numbers()) {
-            writeln!(f, "  {count:>9}  {name}")?;
-        }
-        Ok(())
+        table(f, "conversions", Moves::names(), self.moves.numbers())?;
+        table(f, "U", Used::names(), self.used.numbers())?;
+        table(f, "old runs and gaps", Gaps::names(), self.gaps.numbers())?;
+        table(f, "searches", Finds::names(), self.finds.numbers())?;
+        table(f, "the link", Links::names(), self.links.numbers())
     }
+}
+
+/// A heading, and below it each count with its name.
+fn table<'a>(
+    f: &mut fmt::Formatter,
+    heading: &str,
+    names: impl Iterator<Item = impl fmt::Display>,
+    counts: impl Iterator<Item = &'a u64>,
+) -> fmt::Result {
+    writeln!(f, "{heading}")?;
+    for (name, count) in names.zip(counts) {
+        writeln!(f, "  {count:>9}  {name}")?;
+    }
+    Ok(())
 }

@@ -11,6 +11,7 @@ mod forged;
 mod gaps;
 mod giant;
 mod histories;
+mod link;
 mod moved;
 mod older;
 mod past;
@@ -33,7 +34,7 @@ pub struct Theme {
 }
 
 /// The themes whose turn comes by chance.
-pub const THEMES: [Theme; 13] = [
+pub const THEMES: [Theme; 14] = [
     Theme { name: "files", share: 13, round: files::round },
     Theme { name: "edges", share: 9, round: edges::round },
     Theme { name: "scans", share: 9, round: scans::round },
@@ -47,6 +48,7 @@ pub const THEMES: [Theme; 13] = [
     Theme { name: "used", share: 7, round: used::round },
     Theme { name: "gaps", share: 8, round: gaps::round },
     Theme { name: "find", share: 9, round: find::round },
+    Theme { name: "link", share: 11, round: link::round },
 ];
 
 /// Up to 4,096 slots; dear, so its turn comes by count.

@@ -4,7 +4,7 @@ use crate::call::{Answer, Call, Expected, Lent};
 use crate::cases::shape::{Form, get32};
 use crate::rng::Rng;
 use crate::tally::Tally;
-use face::{Begun, Job, Stepped};
+use face::{Begun, Job, Link, Stepped};
 use model::About;
 
 /// What is compared with the model: something with the library's face, on memory of its own.
@@ -19,6 +19,10 @@ pub trait Subject {
     fn new_about(&mut self, about: &About, rng: &mut Rng);
     /// Has a new second buffer.
     fn new_second(&mut self, second: &[u8], rng: &mut Rng);
+    /// Has a new piece of a file, to be taken over the link.
+    fn new_piece(&mut self, piece: &[u8], rng: &mut Rng);
+    /// Has a new working row.
+    fn new_working(&mut self, working: &[u32], rng: &mut Rng);
     /// Makes the call; what the world holds is what memory should then be.
     fn call(&mut self, call: &Call, expected: &Expected, held: &Lent) -> Result<(), String>;
     /// Whether all of the file is as it should be, also where a call looks at a part of it alone.
@@ -49,6 +53,9 @@ pub struct World<'a> {
     about: About,
     /// The second buffer, as it should be.
     pub second: Vec<u8>,
+    piece: Vec<u8>,
+    /// The working row of a verdict over the link, as it should be.
+    pub working: Vec<u32>,
     /// What was reached.
     pub tally: Tally,
 }
@@ -64,12 +71,16 @@ impl<'a> World<'a> {
             scan: Vec::new(),
             about: [0; 54],
             second: Vec::new(),
+            piece: Vec::new(),
+            working: Vec::new(),
             tally: Tally::default(),
         };
         world.set_file(Vec::new());
         world.set_scan(Vec::new());
         world.set_about([0; 54]);
         world.set_second(Vec::new());
+        world.set_piece(Vec::new());
+        world.set_working(Vec::new());
         world
     }
 
@@ -91,11 +102,6 @@ impl<'a> World<'a> {
         self.subject.new_file(len, &mut self.rng);
         self.file = vec![0; len];
         self.form = form;
-    }
-
-    /// Whether the file was made in the old form and is not by damage one of the current form.
-    fn is_old(&self) -> bool {
-        self.form == Form::Old && (self.file.len() < 512 || get32(&self.file, 28) != 1)
     }
 
     /// Puts bytes into the file.
@@ -128,22 +134,32 @@ impl<'a> World<'a> {
         self.second = second;
     }
 
+    /// Takes a new piece of a file.
+    fn set_piece(&mut self, piece: Vec<u8>) {
+        self.subject.new_piece(&piece, &mut self.rng);
+        self.piece = piece;
+    }
+
+    /// Takes a new working row.
+    pub fn set_working(&mut self, working: Vec<u32>) {
+        self.subject.new_working(&working, &mut self.rng);
+        self.working = working;
+    }
+
     /// Makes a call of both sides, and compares answers and memory.
     pub fn call(&mut self, call: Call) -> Round<Answer> {
-        let lent = Lent { file: &self.file, scan: &self.scan, about: &self.about, second: &self.second };
-        let expected = Expected::of(&call, &lent);
+        let World { subject, file, form, scan, about, second, piece, working, tally, .. } = self;
+        let expected = Expected::of(&call, &Lent { file, scan, about, second, piece, working });
         if let Some(write) = &expected.write {
-            write.apply(&mut self.file);
+            write.apply(file);
         }
         if let Some(write) = &expected.converted {
-            write.apply(&mut self.second);
+            write.apply(second);
         }
-        let held = Lent { file: &self.file, scan: &self.scan, about: &self.about, second: &self.second };
-        let old = self.is_old();
-        self.tally.count(&call, &expected.answer, old, &held);
-        self.subject
-            .call(&call, &expected, &held)
-            .map_err(|what| Disagreement { what: format!("{call:?}\n  {what}") })?;
+        expected.worked.iter().for_each(|(at, element)| working[*at] = *element);
+        let held = Lent { file, scan, about, second, piece, working };
+        tally.count(&call, &expected.answer, is_old(*form, file), &held);
+        subject.call(&call, &expected, &held).map_err(|what| Disagreement { what: format!("{call:?}\n  {what}") })?;
         Ok(expected.answer)
     }
 
@@ -170,4 +186,28 @@ impl<'a> World<'a> {
             _ => unreachable!("a step answers a step"),
         }
     }
+
+    /// Begins a verdict over the link, of a file of so many bytes.
+    pub fn link_begin(&mut self, length: u64) -> Round<Link> {
+        self.linked(Call::LinkBegin { length })
+    }
+
+    /// Takes a piece; the link moves on.
+    pub fn link_take(&mut self, link: &mut Link, piece: &[u8]) -> Round {
+        self.set_piece(piece.to_vec());
+        *link = self.linked(Call::LinkTake { link: *link })?;
+        Ok(())
+    }
+
+    fn linked(&mut self, call: Call) -> Round<Link> {
+        match self.call(call)? {
+            Answer::Linked(linked) => Ok(linked.link),
+            _ => unreachable!("a beginning and a piece answer a link"),
+        }
+    }
+}
+
+/// Whether a file was made in the old form and is not by damage one of the current form.
+fn is_old(form: Form, file: &[u8]) -> bool {
+    form == Form::Old && (file.len() < 512 || get32(file, 28) != 1)
 }

@@ -28,8 +28,10 @@ fn what_no_case_reached_is_named() {
     // refusals with 0, rules, Saved and Cleared, calls; then an old file's looks, changes and steps; then the answers of
     // conversions, what they came upon, and the ways there and home; then what jobs did to U;
     // then what became of old runs and of gaps; then the answers of searches, in either form and with an empty row, and
-    // what they came upon
-    assert_eq!(missing.len(), 20 + 6 + 2 + 16 + 13 + 3 + 1 + 2 * 10 + 19 + 4 + 26 + 42 + 4 * 6 + 66);
+    // what they came upon; then the answers of the link's three calls, of finish in either form, where its first pieces
+    // and entries of either form were cut, and what else came over it
+    let link = 2 * 2 + 2 * 10 + 37 + 10 + 6 + 80;
+    assert_eq!(missing.len(), 21 + 6 + 2 + 19 + 13 + 3 + 1 + 2 * 10 + 19 + 4 + 26 + 42 + 4 * 6 + 66 + link);
     let named = [
         "refusal 19",
         "a look at an old file, 18",
@@ -53,6 +55,15 @@ fn what_no_case_reached_is_named() {
         "found the listed runs, which slot order has otherwise",
         "none, DATALEN past the data, the bytes are lent",
         "17, one element too few",
+        "refusal 20",
+        "a piece, 17",
+        "a finish of an old file, 20",
+        "a first piece of 31 bytes",
+        "a cut before byte 3 of an old entry",
+        "an empty piece within the index",
+        "by hand, M is 0",
+        "20, a byte of the index is missing",
+        "17, a finish with an element too few",
     ];
     for name in named {
         assert!(missing.iter().any(|missing| missing == name), "{name} is not among {missing:?}");

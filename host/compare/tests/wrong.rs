@@ -14,7 +14,7 @@ fn every_wrong_line_is_noticed() {
     let seed = seed_from_environment().wrapping_mul(31);
     println!("wrong lines: seed {seed}");
     let lines = wrong_lines();
-    assert!(lines.len() >= 296);
+    assert!(lines.len() >= 326);
     let (waiting, missed) = (Mutex::new(lines.iter()), Mutex::new(Vec::new()));
     let next = || waiting.lock().unwrap().next();
     std::thread::scope(|scope| {

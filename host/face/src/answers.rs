@@ -4,7 +4,7 @@
 #[repr(C)]
 #[derive(Clone, Copy, Debug, PartialEq, Eq)]
 pub struct Refusal {
-    /// 1 to 19, or 0.
+    /// 1 to 20, or 0.
     pub number: u32,
     /// The slot (6, 7, 8) or the reason (11), else 0.
     pub value: u32,
@@ -127,6 +127,29 @@ pub struct Stepped {
     pub job: Job,
 }
 
+/// A verdict under way, of a file whose bytes come in pieces.
+#[repr(C)]
+#[derive(Clone, Copy, Debug, PartialEq, Eq)]
+pub struct Link {
+    /// The first 32 bytes, as far as they came.
+    pub boot: [u8; 32],
+    /// The file's length, as it was given first.
+    pub length: u64,
+    /// How many bytes came that count.
+    pub came: u64,
+    /// The byte at which the index ends; 0 while the bootstrap has not come, and where it breaks a rule.
+    pub index_end: u64,
+}
+
+/// The link after a call.
+#[allow(missing_docs)]
+#[repr(C)]
+#[derive(Clone, Copy, Debug, PartialEq, Eq)]
+pub struct Linked {
+    pub why: Refusal,
+    pub link: Link,
+}
+
 impl Refusal {
     /// Not refused.
     pub const NONE: Refusal = Refusal { number: 0, value: 0 };
@@ -188,4 +211,9 @@ impl Job {
         boot: [0; 32],
         about: [0; 54],
     };
+}
+
+impl Link {
+    /// The link of zeros: what a refused beginning hands back.
+    pub const ZEROS: Link = Link { boot: [0; 32], length: 0, came: 0, index_end: 0 };
 }

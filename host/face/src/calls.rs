@@ -1,9 +1,9 @@
 //! The calls as a table, so that the library, the stand-in and a wrong copy of
 //! it can be tried by the same comparison.
 
-use crate::answers::{Answer, Begun, Entry, Job, Listed, Opened, Refusal, Span, Stepped};
+use crate::answers::{Answer, Begun, Entry, Job, Link, Linked, Listed, Opened, Refusal, Span, Stepped};
 
-/// The sixteen calls of the header, in its order. A slice is a pointer and then
+/// The nineteen calls of the header, in its order. A slice is a pointer and then
 /// a length; `about` is a pointer to 54 bytes.
 #[allow(missing_docs)]
 #[derive(Clone, Copy)]
@@ -24,4 +24,7 @@ pub struct Calls {
     pub to_old: unsafe extern "C" fn(*const u8, usize, *mut u8, usize) -> Refusal,
     pub gaps_zero: unsafe extern "C" fn(*const u8, usize) -> Answer,
     pub find: unsafe extern "C" fn(*const u8, usize, *mut u64, usize) -> Listed,
+    pub link_begin: unsafe extern "C" fn(u64, *mut u32, usize) -> Linked,
+    pub link_take: unsafe extern "C" fn(Link, *const u8, usize, *mut u32, usize) -> Linked,
+    pub link_finish: unsafe extern "C" fn(Link, *const u32, usize) -> Opened,
 }

@@ -1,7 +1,7 @@
 //! The layout that the header gives these structs on every 64-bit Linux,
 //! checked when this crate is compiled.
 
-use crate::answers::{Answer, Begun, Entry, Job, Listed, Opened, Refusal, Span, Stepped};
+use crate::answers::{Answer, Begun, Entry, Job, Link, Linked, Listed, Opened, Refusal, Span, Stepped};
 use std::mem::{offset_of, size_of};
 
 const _: () = {
@@ -14,6 +14,8 @@ const _: () = {
     assert!(size_of::<Job>() == 160);
     assert!(size_of::<Begun>() == 168);
     assert!(size_of::<Stepped>() == 192);
+    assert!(size_of::<Link>() == 56);
+    assert!(size_of::<Linked>() == 64);
 
     assert!(offset_of!(Opened, kind) == 56);
     assert!(offset_of!(Opened, room) == 72);
@@ -32,4 +34,7 @@ const _: () = {
     assert!(offset_of!(Job, boot) == 72);
     assert!(offset_of!(Job, about) == 104);
     assert!(offset_of!(Stepped, job) == 32);
+    assert!(offset_of!(Link, length) == 32);
+    assert!(offset_of!(Link, came) == 40);
+    assert!(offset_of!(Link, index_end) == 48);
 };

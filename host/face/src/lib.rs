@@ -10,6 +10,6 @@ mod calls;
 mod layout;
 mod numbers;
 
-pub use answers::{Answer, Begun, Entry, Job, Listed, Opened, Refusal, Span, Stepped};
+pub use answers::{Answer, Begun, Entry, Job, Link, Linked, Listed, Opened, Refusal, Span, Stepped};
 pub use calls::Calls;
 pub use numbers::{done, kind, refused, version};

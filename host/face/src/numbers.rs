@@ -22,6 +22,7 @@ pub mod refused {
     pub const ANSWER_TOO_LONG: u32 = 17;
     pub const NOT_VERSION_ONE: u32 = 18;
     pub const NOT_CONVERTIBLE: u32 = 19;
+    pub const NOT_ALL_CAME: u32 = 20;
 }
 
 /// What a step did.

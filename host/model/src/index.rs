@@ -52,7 +52,11 @@ pub fn highest(file: &[u8], sizes: &Sizes) -> u64 {
 /// Judges a file of either form: refusals 1 and 3 to 8.
 pub fn open(file: &[u8]) -> Answer<Sizes> {
     let sizes = bootstrap(file)?;
-    let runs = runs(file, &sizes);
+    judged(sizes, &runs(file, &sizes))
+}
+
+/// Refusals 6 to 8 over the runs of all slots, of a file whose bootstrap breaks nothing.
+pub(crate) fn judged(sizes: Sizes, runs: &[Run]) -> Answer<Sizes> {
     let (used, above) = runs.split_at(sizes.u as usize);
 
     if let Some(i) = used.iter().position(|run| !run.is_empty() && !run.in_range(&sizes)) {

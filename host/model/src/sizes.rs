@@ -122,12 +122,12 @@ pub fn room(file_len: u64, sizes: &Sizes) -> u64 {
     (file_len / sizes.l).min(MOST_RECORDS)
 }
 
-/// "word 8 (bytes 28 to 31) 0: old; 1: current; else 3". Refusals 1 and 3.
-fn form(file: &[u8]) -> Answer<Form> {
-    if file.len() < 512 {
+/// "word 8 (bytes 28 to 31) 0: old; 1: current; else 3". Refusals 1 and 3, of a file of so many bytes that begins so.
+fn form(beginning: &[u8], file_len: u64) -> Answer<Form> {
+    if file_len < 512 {
         return refuse(1);
     }
-    match word(file, 28) {
+    match word(beginning, 28) {
         0 => Ok(Form::Old),
         1 => Ok(Form::Current),
         _ => refuse(3),
@@ -136,7 +136,7 @@ fn form(file: &[u8]) -> Answer<Form> {
 
 /// "2 now means a save, keep or clear on an old file and keeps its place", which is before 4. Refusals 1 to 3.
 pub(crate) fn may_change(file: &[u8]) -> Answer<()> {
-    match form(file)? {
+    match form(file, file.len() as u64)? {
         Form::Old => refuse(2),
         Form::Current => Ok(()),
     }
@@ -144,12 +144,22 @@ pub(crate) fn may_change(file: &[u8]) -> Answer<()> {
 
 /// Refusals 1, 3, 4 and 5.
 pub fn bootstrap(file: &[u8]) -> Answer<Sizes> {
-    let sizes = Sizes::of(file, form(file)?);
+    bootstrap_over(file, file.len() as u64)
+}
+
+/// The same of a file of so many bytes, of which at least the first 32 are known where it has 512.
+pub fn bootstrap_over(beginning: &[u8], file_len: u64) -> Answer<Sizes> {
+    let sizes = Sizes::of(beginning, form(beginning, file_len)?);
     if !sizes.in_range() {
         return refuse(4);
     }
-    if (sizes.n + sizes.d) * sizes.l > file.len() as u64 {
+    if (sizes.n + sizes.d) * sizes.l > file_len {
         return refuse(5);
     }
     Ok(sizes)
+}
+
+/// What 32 bytes state, whatever their numbers are: in the old form where word 8 is 0, else in the current one.
+pub(crate) fn stated(boot: &[u8; 32]) -> Sizes {
+    Sizes::of(boot, if word(boot, 28) == 0 { Form::Old } else { Form::Current })
 }

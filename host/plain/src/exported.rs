@@ -1,9 +1,9 @@
 //! The calls with the C face: pointers to slices, answers to structs of numbers.
 
-use crate::calls::{convert, find, gaps, look, store};
+use crate::calls::{convert, find, gaps, link, look, store};
 use crate::ground::line::or;
 use crate::rules::boot::Answer;
-use face::{Answer as YesOrNo, Begun, Calls, Entry, Job, Listed, Opened, Refusal, Span, Stepped};
+use face::{Answer as YesOrNo, Begun, Calls, Entry, Job, Link, Linked, Listed, Opened, Refusal, Span, Stepped};
 use std::slice::{from_raw_parts, from_raw_parts_mut};
 
 /// The table of one copy.
@@ -25,12 +25,15 @@ pub fn calls<const X: u32>() -> Calls {
         to_old: to_old::<X>,
         gaps_zero: gaps_zero::<X>,
         find: find::<X>,
+        link_begin: link_begin::<X>,
+        link_take: link_take::<X>,
+        link_finish: link_finish::<X>,
     }
 }
 
 /// # Safety
 /// `len` readable elements at `at`, or `len` 0.
-unsafe fn lent<'a>(at: *const u8, len: usize) -> &'a [u8] {
+unsafe fn lent<'a, T>(at: *const T, len: usize) -> &'a [T] {
     if len == 0 { &[] } else { unsafe { from_raw_parts(at, len) } }
 }
 
@@ -58,11 +61,15 @@ fn begun(answer: Answer<Job>) -> Begun {
     }
 }
 
-unsafe extern "C" fn open<const X: u32>(file: *const u8, file_len: usize) -> Opened {
-    match look::open::<X>(unsafe { lent(file, file_len) }) {
+fn opened<const X: u32>(answer: Answer<Opened>) -> Opened {
+    match answer {
         Ok(opened) => opened,
         Err(why) => Opened { why, version: or::<X, _>(123, 0, 1), ..Opened::ZEROS },
     }
+}
+
+unsafe extern "C" fn open<const X: u32>(file: *const u8, file_len: usize) -> Opened {
+    opened::<X>(look::open::<X>(unsafe { lent(file, file_len) }))
 }
 
 unsafe extern "C" fn list<const X: u32>(file: *const u8, file_len: usize, out: *mut u32, out_len: usize) -> Listed {
@@ -161,4 +168,27 @@ unsafe extern "C" fn find<const X: u32>(file: *const u8, file_len: usize, out: *
         Ok(scans) => Listed { why: Refusal::NONE, scans },
         Err(why) => Listed { why, scans: or::<X, _>(295, 0, 1) },
     }
+}
+
+unsafe extern "C" fn link_begin<const X: u32>(length: u64, row: *mut u32, row_len: usize) -> Linked {
+    match link::begin::<X>(length, unsafe { lent_mut(row, row_len) }) {
+        Ok(link) => Linked { why: Refusal::NONE, link },
+        Err(why) => Linked { why, link: Link { length: or::<X, _>(312, 0, length), ..Link::ZEROS } },
+    }
+}
+
+unsafe extern "C" fn link_take<const X: u32>(
+    mut link: Link,
+    piece: *const u8,
+    piece_len: usize,
+    row: *mut u32,
+    row_len: usize,
+) -> Linked {
+    let (piece, row) = unsafe { (lent(piece, piece_len), lent_mut(row, row_len)) };
+    let why = refusal(link::take::<X>(&mut link, piece, row));
+    Linked { why, link }
+}
+
+unsafe extern "C" fn link_finish<const X: u32>(link: Link, row: *const u32, row_len: usize) -> Opened {
+    opened::<X>(link::finish::<X>(&link, unsafe { lent(row, row_len) }))
 }

@@ -1,5 +1,6 @@
 //! What each command does. `run` knows them all; they know the floors below, `demo` also those that it shows;
-//! `second` is what `convert` and `sweep` share, `bytes` has what `find` writes its files with.
+//! `second` is what `convert` and `sweep` share, `bytes` has what `find` writes its files with, `stream` is `check` of
+//! standard input.
 
 mod about;
 mod blank;
@@ -18,6 +19,7 @@ mod install;
 mod list;
 mod pages;
 mod second;
+mod stream;
 mod sweep;
 
 use crate::say::failure::Failure;

@@ -265,7 +265,7 @@ fn help_and_the_man_page_tell_of_it() {
     let sentence = "Files of the old form, from before 1993, are looked at like any other, and not changed.";
     assert!(wrote(&folder, &["--help"]).contains(sentence));
     assert!(wrote(&folder, &["manual"]).contains(sentence));
-    assert!(wrote(&folder, &["--help"]).contains("1 to 19 refused with this number"));
+    assert!(wrote(&folder, &["--help"]).contains("1 to 20 refused with this number"));
     for command in ["save", "keep", "clear"] {
         assert!(wrote(&folder, &[command, "--help"]).contains("is not changed: it is refused with 2."), "{command}");
     }

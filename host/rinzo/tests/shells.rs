@@ -47,6 +47,8 @@ fn bash_completes() {
     assert_eq!(ask("rinzo convert f.sdd --to ''"), "old current");
     assert_eq!(ask("rinzo convert f.sdd --to c"), "current");
     assert_eq!(ask("rinzo list --l"), "--long");
+    assert_eq!(ask("rinzo check - --l"), "--length");
+    assert_eq!(ask("rinzo check - --length ''"), "");
     assert_eq!(ask("rinzo blank f.sdd --n ''"), "");
     assert_eq!(ask("rinzo list ''"), "");
     assert_eq!(ask("rinzo completion ''"), "bash zsh fish");

@@ -23,8 +23,14 @@ fn terminal() -> (File, File) {
 
 /// What the program says on a terminal, as standard error, while standard output is a pipe.
 fn said_on_terminal(folder: &Path, words: &[&str]) -> String {
+    said_with_input(folder, words, Stdio::null())
+}
+
+/// The same with something on standard input.
+fn said_with_input(folder: &Path, words: &[&str], input: Stdio) -> String {
     let (mut person, program) = terminal();
     let mut command = rinzo(folder);
+    command.stdin(input);
     let child = command.args(words).stdout(Stdio::piped()).stderr(Stdio::from(program)).spawn().unwrap();
     assert!(child.wait_with_output().unwrap().status.success());
     drop(command); // and with it the last hand on the program's end
@@ -90,6 +96,18 @@ fn progress_is_shown_on_a_terminal_and_wiped_away() {
     // what is short says nothing
     assert_eq!(said_on_terminal(&folder, &["list", "f.sdd"]), "");
     assert_eq!(said_on_terminal(&folder, &["check", "f.sdd", "--scans", "--json"]), "");
+}
+
+#[test]
+fn a_file_that_comes_shows_progress() {
+    let folder = folder("terminal_input");
+    one_long_gap(&folder, 9_000);
+    let input = || Stdio::from(File::open(folder.join("gap.sdd")).unwrap());
+    let said = said_with_input(&folder, &["check", "-"], input());
+    assert!(said.contains("received: 1.0 MB") && said.ends_with("\r\x1b[K"), "{said:?}");
+    assert_eq!(said_with_input(&folder, &["check", "-", "--json"], input()), "");
+    let output = rinzo(&folder).args(["check", "-"]).stdin(input()).output().unwrap();
+    assert!(output.status.success() && output.stderr.is_empty());
 }
 
 #[test]

@@ -11,7 +11,8 @@
 //! scans where the index is lost. [`blank`] makes an empty file. Files of the
 //! old form, from before 1993, are looked at like any other ([`Form`] says
 //! which it is), and not changed; [`to_current`] and [`to_old`] write bootstrap
-//! and index in the other form, into other memory.
+//! and index in the other form, into other memory. A file that nobody holds as
+//! a whole is judged by a [`Link`], which takes its bytes as they come.
 //!
 //! # To save a scan
 //! [`drive`] runs a job on a [`Device`]: it writes each record durably, reads
@@ -80,6 +81,7 @@ mod entry;
 mod find;
 mod head;
 mod job;
+mod link;
 mod linked;
 mod look;
 mod real;
@@ -95,6 +97,7 @@ pub use entry::{Entry, Kind};
 pub use find::{Find, find};
 pub use head::Head;
 pub use job::{Job, Step, blank, clear, keep, save, step};
+pub use link::Link;
 pub use look::{Listed, Span, class, classes, data, entry, gaps_zero, list, open, read, show};
 pub use real::{Real4, Real8};
 pub use refusal::{Refusal, Rule};

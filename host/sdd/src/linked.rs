@@ -7,7 +7,7 @@ mod chosen {
 
 #[cfg(not(feature = "stand-in"))]
 mod chosen {
-    use face::{Answer, Begun, Calls, Entry, Job, Listed, Opened, Refusal, Span, Stepped};
+    use face::{Answer, Begun, Calls, Entry, Job, Link, Linked, Listed, Opened, Refusal, Span, Stepped};
 
     unsafe extern "C" {
         fn sdd_open(file: *const u8, file_len: usize) -> Opened;
@@ -33,6 +33,9 @@ mod chosen {
         fn sdd_to_old(file: *const u8, file_len: usize, out: *mut u8, out_len: usize) -> Refusal;
         fn sdd_gaps_zero(file: *const u8, file_len: usize) -> Answer;
         fn sdd_find(file: *const u8, file_len: usize, out: *mut u64, out_len: usize) -> Listed;
+        fn sdd_link_begin(length: u64, row: *mut u32, row_len: usize) -> Linked;
+        fn sdd_link_take(link: Link, piece: *const u8, piece_len: usize, row: *mut u32, row_len: usize) -> Linked;
+        fn sdd_link_finish(link: Link, row: *const u32, row_len: usize) -> Opened;
     }
 
     pub fn calls() -> Calls {
@@ -53,6 +56,9 @@ mod chosen {
             to_old: sdd_to_old,
             gaps_zero: sdd_gaps_zero,
             find: sdd_find,
+            link_begin: sdd_link_begin,
+            link_take: sdd_link_take,
+            link_finish: sdd_link_finish,
         }
     }
 }

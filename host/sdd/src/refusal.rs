@@ -44,6 +44,8 @@ pub enum Refusal {
     NotVersionOne,
     /// 19: the file has the wanted form already, or cannot be had in it.
     NotConvertible,
+    /// 20: of a file that comes in pieces, fewer bytes have come than its verdict rests on.
+    NotAllCame,
 }
 
 /// The rule that a scan breaks: the reason in refusal 11.
@@ -99,11 +101,12 @@ impl Refusal {
             refused::ANSWER_TOO_LONG => Refusal::AnswerTooLong,
             refused::NOT_VERSION_ONE => Refusal::NotVersionOne,
             refused::NOT_CONVERTIBLE => Refusal::NotConvertible,
+            refused::NOT_ALL_CAME => Refusal::NotAllCame,
             other => unreachable!("the library refused with number {other}, which this crate does not know"),
         })
     }
 
-    /// The paper's number, 1 to 19.
+    /// The paper's number, 1 to 20.
     pub fn number(self) -> u32 {
         match self {
             Refusal::TooShort => refused::TOO_SHORT,
@@ -125,6 +128,7 @@ impl Refusal {
             Refusal::AnswerTooLong => refused::ANSWER_TOO_LONG,
             Refusal::NotVersionOne => refused::NOT_VERSION_ONE,
             Refusal::NotConvertible => refused::NOT_CONVERTIBLE,
+            Refusal::NotAllCame => refused::NOT_ALL_CAME,
         }
     }
 

@@ -4,7 +4,7 @@ use crate::refusal::Refusal;
 use std::fmt;
 
 /// Of each refusal, by its number from 1 on; of 11 where nothing more is known.
-const REFUSALS: [&str; 19] = [
+const REFUSALS: [&str; 20] = [
     "the file has fewer than 512 bytes, so it is no SDD file: check that it was copied whole",
     "the file has the old form from before 1993, which is looked at here and not changed: convert it into a second file, of the current form, and work on that one",
     "the file is of no version that is known: check that it is an SDD file",
@@ -21,9 +21,10 @@ const REFUSALS: [&str; 19] = [
     "the job and the file disagree, something else changed the file or the scan: list the file, then begin the job again",
     "what was read back is not what was written: the scan is not confirmed, check the device and save it again to the same slot",
     "these sizes make no file: N is 2 to 513, L 512 to 4,096, M 64 to L and a divisor of L, with at most 4,096 slots, and N records must fit",
-    "the answer does not fit into what was lent for it: lend three numbers for each scan of a list or a search, N records for a conversion",
+    "the answer does not fit into what was lent for it: lend three numbers for each scan of a list or a search, N records for a conversion, a row of 8,192 numbers for a file that comes in pieces",
     "the old file says that this scan is not of SDD version 1, so it is not read: show its records as they stand, or have the station convert it",
     "the file cannot be converted, it has the wanted form already, holds individual records, has a scan that is not of SDD version 1, or has a number too large for the old form: list and check it to see which of these it is, and work on the file as it is",
+    "too little of the file has come to judge it: send the rest, or the whole file again from its first byte on",
 ];
 
 /// Of refusal 11, by its rule from 1 on.

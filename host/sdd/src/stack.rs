@@ -46,10 +46,16 @@ pub const TO_OLD: usize = MOST;
 pub const GAPS_ZERO: usize = MOST;
 /// [`find`](crate::find).
 pub const FIND: usize = 1 << 10;
+/// [`Link::begin`](crate::Link::begin).
+pub const LINK_BEGIN: usize = 1 << 10;
+/// [`Link::take`](crate::Link::take).
+pub const LINK_TAKE: usize = 1 << 10;
+/// [`Link::finish`](crate::Link::finish).
+pub const LINK_FINISH: usize = 136 << 10;
 
 /// All of them, by the names that they have in the header after `sdd_`.
 #[doc(hidden)]
-pub const ALL: [(&str, usize); 16] = [
+pub const ALL: [(&str, usize); 19] = [
     ("open", OPEN),
     ("list", LIST),
     ("entry_at", ENTRY_AT),
@@ -66,4 +72,7 @@ pub const ALL: [(&str, usize); 16] = [
     ("to_old", TO_OLD),
     ("gaps_zero", GAPS_ZERO),
     ("find", FIND),
+    ("link_begin", LINK_BEGIN),
+    ("link_take", LINK_TAKE),
+    ("link_finish", LINK_FINISH),
 ];

@@ -17,8 +17,8 @@ fn refusals() -> Vec<Refusal> {
     let before = [TooShort, OldForm, UnknownVersion, BadBootstrap, CutShort];
     let slots = [BadEntry(5), EntryAboveUsed(6), SharedRecord(7), NoSuchSlot, EmptySlot];
     let after = [NoEmptySlot, NoRoom, JobDisagrees, NotConfirmed, BadSizes, AnswerTooLong];
-    let forms = [NotVersionOne, NotConvertible];
-    [&before[..], &slots, &rules, &after, &forms].concat()
+    let later = [NotVersionOne, NotConvertible, NotAllCame];
+    [&before[..], &slots, &rules, &after, &later].concat()
 }
 
 /// `NoSuchSlot` as the header writes it.
@@ -46,7 +46,7 @@ fn constants() -> BTreeMap<String, usize> {
 fn the_header_names_every_number() {
     let mut wanted: BTreeMap<String, usize> =
         refusals().into_iter().map(|refusal| (c_name(refusal), refusal.number() as usize)).collect();
-    assert_eq!(wanted.len(), 19);
+    assert_eq!(wanted.len(), 20);
     use sdd::numbers::{done, kind, version};
     wanted.extend(
         [("OLD", version::OLD), ("CURRENT", version::CURRENT)]
@@ -63,6 +63,7 @@ fn the_header_names_every_number() {
     wanted.extend(sdd::stack::ALL.map(|(name, bytes)| (format!("SDD_STACK_{}", name.to_uppercase()), bytes)));
     wanted.insert("SDD_STACK".to_string(), sdd::stack::MOST);
     wanted.insert("SDD_ABOUT".to_string(), About::default().bytes().len());
+    wanted.insert("SDD_LINK_ROW".to_string(), 2 * 4_096);
     assert_eq!(constants(), wanted);
 }
 

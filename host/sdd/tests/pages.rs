@@ -78,6 +78,7 @@ fn every_refusal_has_its_row() {
         AnswerTooLong,
         NotVersionOne,
         NotConvertible,
+        NotAllCame,
     ];
     for refusal in all {
         let (what, to_do) = refusal.sentence().split_once(": ").unwrap();

@@ -3,7 +3,7 @@
 //! Programs link the proved library, which has the same names. This is for work on the host alone, and a crate of
 //! its own because the comparison has both the proved library and the stand-in in one program.
 
-use face::{Answer, Begun, Entry, Job, Listed, Opened, Refusal, Span, Stepped};
+use face::{Answer, Begun, Entry, Job, Link, Linked, Listed, Opened, Refusal, Span, Stepped};
 
 /// Exports a call of the table under its name in the header.
 macro_rules! exported {
@@ -35,4 +35,7 @@ exported! {
     sdd_to_old is to_old(file: *const u8, file_len: usize, out: *mut u8, out_len: usize) -> Refusal;
     sdd_gaps_zero is gaps_zero(file: *const u8, file_len: usize) -> Answer;
     sdd_find is find(file: *const u8, file_len: usize, out: *mut u64, out_len: usize) -> Listed;
+    sdd_link_begin is link_begin(length: u64, row: *mut u32, row_len: usize) -> Linked;
+    sdd_link_take is link_take(link: Link, piece: *const u8, piece_len: usize, row: *mut u32, row_len: usize) -> Linked;
+    sdd_link_finish is link_finish(link: Link, row: *const u32, row_len: usize) -> Opened;
 }

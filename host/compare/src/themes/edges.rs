@@ -29,6 +29,12 @@ const EDGES: [(u64, u64, u64); 16] = [
 ];
 
 pub fn round(world: &mut World) -> Round {
+    let shape = set_file(world);
+    ask(world, &shape)
+}
+
+/// Takes a new file with a number at its edge.
+pub fn set_file(world: &mut World) -> Shape {
     let rng = &mut world.rng;
     let shape = if rng.percent(40) {
         let (n, l, m) = rng.pick(&EDGES);
@@ -43,7 +49,7 @@ pub fn round(world: &mut World) -> Round {
         one_number(rng, &mut file, &shape, d);
     }
     world.set_file_of(shape.form, file);
-    ask(world, &shape)
+    shape
 }
 
 /// Puts one number, or the length, at or just past its edge.

@@ -1,7 +1,7 @@
 //! A file with room for more than 1,000,000 records: memory that is there only where it is touched.
 
 use super::files;
-use super::shared::{jobs, searches};
+use super::shared::{jobs, links, searches};
 use crate::call::Call;
 use crate::cases::make;
 use crate::cases::shape::{Form, Shape, put32};
@@ -18,6 +18,7 @@ pub fn round(world: &mut World) -> Round {
     world.call(Call::Blank { n: shape.n, l: shape.l, m: shape.m })?;
     nearly_full(world, &shape);
     world.call(Call::Open)?;
+    links::one(world)?;
     files::list(world, &shape)?;
     // from the place that is left: one that fits exactly or nearly, and one record too many
     for most in [1_024, 512, 1_536] {

@@ -1,6 +1,6 @@
 //! Old files whose records go on past 32,767, the last one that an old entry can name.
 
-use super::shared::{moves, searches};
+use super::shared::{links, moves, searches};
 use super::{files, older};
 use crate::call::Call;
 use crate::cases::make;
@@ -23,6 +23,7 @@ pub fn round(world: &mut World) -> Round {
         put_runs(world, &shape);
         ask(world, &shape)?;
     }
+    links::one(world)?;
     found_at_the_end(world, &shape, d)?;
     older::changes(world, &shape)?;
     older::steps(world, &shape)?;

@@ -1,7 +1,7 @@
 //! Files with up to 4,096 slots.
 
 use super::files;
-use super::shared::{jobs, moves};
+use super::shared::{jobs, links, moves};
 use crate::call::Call;
 use crate::cases::{damage, make};
 use crate::world::{Round, World};
@@ -20,6 +20,7 @@ pub fn round(world: &mut World) -> Round {
         damage::file(rng, &mut file, &shape);
     }
     world.set_file_of(shape.form, file);
+    links::one(world)?;
     moves::converted(world, &shape, shape.other().form)?;
     files::ask_everything(world, &shape)?;
     jobs::new_scan(world);

@@ -12,8 +12,13 @@ pub fn open<const X: u32>(file: &[u8]) -> Answer<Opened> {
     if X == 120 {
         changeable::<X>(file)?;
     }
-    let z = judge::<X>(file)?.sizes;
-    Ok(Opened {
+    Ok(opened::<X>(&judge::<X>(file)?.sizes, file.len() as u64))
+}
+
+/// The answer where a file of this length opens.
+#[inline]
+pub fn opened<const X: u32>(z: &Sizes, length: u64) -> Opened {
+    Opened {
         why: Refusal::NONE,
         n: z.n,
         d: z.d,
@@ -23,9 +28,9 @@ pub fn open<const X: u32>(file: &[u8]) -> Answer<Opened> {
         counter: z.counter,
         kind: z.kind,
         capacity: z.capacity(),
-        room: z.room::<X>(file.len() as u64),
+        room: z.room::<X>(length),
         version: u64::from(!z.old || X == 121),
-    })
+    }
 }
 
 /// Fills `out` with slot, first and last of each scan; answers how many scans. They are counted first only where `out`

@@ -26,6 +26,12 @@ pub struct Sizes {
 }
 
 impl Sizes {
+    /// The sizes that the first 32 bytes state, whatever they are: in the old form where word 8 is 0.
+    #[inline]
+    pub fn stated<const X: u32>(first: &[u8]) -> Sizes {
+        if version::<X>(first) == 0 { Sizes::read_old::<X>(first) } else { Sizes::read(first) }
+    }
+
     #[inline]
     fn read(file: &[u8]) -> Sizes {
         let word = |i: usize| u64::from(be32(file, 4 * i));
@@ -103,22 +109,31 @@ pub fn changeable<const X: u32>(file: &[u8]) -> Answer<()> {
 }
 
 pub fn bootstrap<const X: u32>(file: &[u8]) -> Answer<Sizes> {
-    if file.len() < or::<X, _>(16, 512, 511) {
+    if X == 96 && file.len() >= 512 && version::<X>(file) == 0 && file[32..512] != [0; 480] {
+        return refuse(4, 0);
+    }
+    bootstrap_of::<X>(file, file.len() as u64)
+}
+
+/// The same of a file of this length, of which no more than the first 32 bytes are looked at, and none where it is too
+/// short.
+#[inline]
+pub fn bootstrap_of<const X: u32>(first: &[u8], length: u64) -> Answer<Sizes> {
+    if length < or::<X, _>(16, 512, 511) {
         return refuse(1, 0);
     }
-    let sizes = match version::<X>(file) {
-        0 => Sizes::read_old::<X>(file),
-        1 => Sizes::read(file),
-        _ => return refuse(3, 0),
-    };
-    if (X == 95 && sizes.old && file[12..28] != [0; 16]) || (X == 96 && sizes.old && file[32..512] != [0; 480]) {
+    if version::<X>(first) > 1 {
+        return refuse(3, 0);
+    }
+    let sizes = Sizes::stated::<X>(first);
+    if X == 95 && sizes.old && first[12..28] != [0; 16] {
         return refuse(4, 0);
     }
     if !sizes.in_range::<X>() {
         return refuse(4, 0);
     }
     let in_use = (sizes.n + sizes.d) * sizes.l;
-    if in_use > file.len() as u64 - or::<X, _>(18, 0, 1) {
+    if in_use > length - or::<X, _>(18, 0, 1) {
         return refuse(5, 0);
     }
     Ok(sizes)

@@ -53,7 +53,22 @@ impl Run {
     }
 }
 
-/// The slots from one on, up to another, with their runs: no bounds are checked on the way.
+/// What has a run for each slot: the entries of a file, or a row that was filled from them.
+pub trait Runs {
+    /// The slots from one on, up to another, with their runs: no bounds are checked on the way.
+    fn between(&self, sizes: &Sizes, from: u64, to: u64) -> impl Iterator<Item = (u64, Run)>;
+}
+
+/// The entries of a file.
+struct Entries<'a, const X: u32, const OLD: bool>(&'a [u8]);
+
+impl<const X: u32, const OLD: bool> Runs for Entries<'_, X, OLD> {
+    #[inline]
+    fn between(&self, sizes: &Sizes, from: u64, to: u64) -> impl Iterator<Item = (u64, Run)> {
+        runs::<X, OLD>(self.0, sizes, from, to)
+    }
+}
+
 #[inline]
 fn runs<'a, const X: u32, const OLD: bool>(
     file: &'a [u8],
@@ -99,9 +114,9 @@ fn foremost<const X: u32>(run: &Run) -> u64 {
 }
 
 /// How many slots, from the first on, are good and lie past the smaller ones; at most U.
-fn rising<const X: u32, const OLD: bool>(file: &[u8], sizes: &Sizes) -> u64 {
+fn rising<const X: u32>(index: &impl Runs, sizes: &Sizes) -> u64 {
     let mut top = 0;
-    for (slot, run) in runs::<X, OLD>(file, sizes, 1, sizes.u) {
+    for (slot, run) in index.between(sizes, 1, sizes.u) {
         if run.is_empty::<X>() {
             continue;
         }
@@ -114,10 +129,10 @@ fn rising<const X: u32, const OLD: bool>(file: &[u8], sizes: &Sizes) -> u64 {
 }
 
 /// Refusal 6, or the lowest slot that shares a record with a smaller one, by marks for the records.
-fn marked<const X: u32, const OLD: bool>(file: &[u8], sizes: &Sizes, rising: u64) -> Answer<(Bits, u64)> {
+fn marked<const X: u32>(index: &impl Runs, sizes: &Sizes, rising: u64) -> Answer<(Bits, u64)> {
     let mut taken = Bits::new(sizes.n + sizes.d + or::<X, _>(22, 0, 1));
     let mut shared = 0;
-    for (slot, run) in runs::<X, OLD>(file, sizes, 1, sizes.u) {
+    for (slot, run) in index.between(sizes, 1, sizes.u) {
         if run.is_empty::<X>() || (X == 21 && run.first > run.last) {
             continue;
         }
@@ -133,28 +148,33 @@ fn marked<const X: u32, const OLD: bool>(file: &[u8], sizes: &Sizes, rising: u64
 
 pub fn judge<const X: u32>(file: &[u8]) -> Answer<Judged> {
     let sizes = bootstrap::<X>(file)?;
-    if sizes.old { judge_index::<X, true>(file, sizes) } else { judge_index::<X, false>(file, sizes) }
+    if sizes.old {
+        judge_index::<X>(&Entries::<X, true>(file), sizes)
+    } else {
+        judge_index::<X>(&Entries::<X, false>(file), sizes)
+    }
 }
 
-fn judge_index<const X: u32, const OLD: bool>(file: &[u8], sizes: Sizes) -> Answer<Judged> {
-    let rising = rising::<X, OLD>(file, &sizes);
+/// Refusals 6 to 8, of a file whose bootstrap breaks no rule.
+pub fn judge_index<const X: u32>(index: &impl Runs, sizes: Sizes) -> Answer<Judged> {
+    let rising = rising::<X>(index, &sizes);
     let mut taken = None;
     let mut shared = 0;
     if rising < sizes.u {
-        let found = marked::<X, OLD>(file, &sizes, rising)?;
+        let found = marked::<X>(index, &sizes, rising)?;
         (taken, shared) = (Some(found.0), found.1);
     }
     if X == 26 && shared != 0 {
         return refuse(8, shared as u32);
     }
-    let mut above = runs::<X, OLD>(file, &sizes, sizes.u + or::<X, _>(27, 1, 2), sizes.capacity());
+    let mut above = index.between(&sizes, sizes.u + or::<X, _>(27, 1, 2), sizes.capacity());
     if let Some((slot, _)) = above.find(|(_, run)| !run.is_empty::<X>()) {
         return refuse(7, slot as u32);
     }
     if shared != 0 {
         return refuse(8, shared as u32);
     }
-    if X == 208 && sizes.u > 0 && Run::at::<X>(file, &sizes, sizes.u).is_empty::<X>() {
+    if X == 208 && sizes.u > 0 && index.between(&sizes, sizes.u, sizes.u).any(|(_, run)| run.is_empty::<X>()) {
         return refuse(6, sizes.u as u32);
     }
     Ok(Judged { sizes, taken })

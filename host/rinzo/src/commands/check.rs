@@ -1,7 +1,8 @@
-//! `rinzo check`: judges files, and says what it has looked at.
+//! `rinzo check`: judges files, and says what it has looked at. What comes on standard input is judged by `stream`.
 
 use super::each::each;
 use super::form;
+use super::stream;
 use crate::file::gaps::{Gaps, free_runs};
 use crate::file::lent::Lent;
 use crate::say::failure::Failure;
@@ -9,13 +10,18 @@ use crate::say::json::Json;
 use crate::say::left;
 use crate::say::out::Out;
 use crate::say::progress::Progress;
+use crate::say::shown;
 use crate::say::used;
 use crate::words::args::Args;
 use sdd::{Listed, Refusal, Sizes};
 use std::path::Path;
 
 pub fn run(args: &Args, out: &Out) -> Result<(), Failure> {
-    each(args, out, |path| check(path, args.has("scans"), out))
+    stream::words(args)?;
+    each(args, out, |path| match shown::is_input(path) {
+        true => stream::check(path, args, out),
+        false => check(path, args.has("scans"), out),
+    })
 }
 
 /// What a look at a file has found.
@@ -109,18 +115,11 @@ impl Found {
 
     fn text(&self, path: &Path) -> String {
         let z = &self.sizes;
-        let kind = if z.individual_records { "1 (individual records)" } else { "0 (data)" };
         let used = used::too_high(z, &self.scans).map_or_else(String::new, |told| format!("\n{told}"));
         format!(
-            "{}\nN {} D {} L {} M {} U {} counter {} type {kind}, {} form{used}\n{} of {} records are in use, {} are free, at most {} in a row; {} bytes in all\n{}",
+            "{}\n{}{used}\n{} of {} records are in use, {} are free, at most {} in a row; {} bytes in all\n{}",
             self.verdict(),
-            z.n,
-            z.d,
-            z.l,
-            z.m,
-            z.u,
-            z.counter,
-            form::name(z.form),
+            form::sizes(z),
             self.in_use(),
             z.room,
             z.room - self.in_use(),
@@ -133,12 +132,8 @@ impl Found {
     fn json(&self, path: &Path) -> Json {
         let z = &self.sizes;
         let mut fields = vec![("file", Json::path(path)), form::field(z.form)];
-        let numbers = [("n", z.n), ("d", z.d), ("l", z.l), ("m", z.m), ("u", z.u), ("counter", z.counter.into())];
-        fields.extend(numbers.map(|(name, number)| (name, Json::number(number))));
+        fields.extend(form::numbers(z));
         let more = [
-            ("type", z.individual_records.into()),
-            ("capacity", z.capacity),
-            ("room", z.room),
             ("in-use", self.in_use()),
             ("free", z.room - self.in_use()),
             ("longest-free", self.longest_free()),

@@ -1,7 +1,7 @@
-//! The form of a file and of its scans, for people and for programs.
+//! The form of a file and of its scans, and its sizes, for people and for programs.
 
 use crate::say::json::Json;
-use sdd::{Entry, Form};
+use sdd::{Entry, Form, Sizes};
 
 /// The magic number of a scan that is SDD version 1.
 pub const VERSION_ONE: i16 = 2;
@@ -22,6 +22,29 @@ pub fn name(form: Form) -> &'static str {
 /// A form as a field of an answer.
 pub fn field(form: Form) -> (&'static str, Json) {
     ("form", Json::text(name(form)))
+}
+
+/// The sizes as a line.
+pub fn sizes(z: &Sizes) -> String {
+    let kind = if z.individual_records { "1 (individual records)" } else { "0 (data)" };
+    let Sizes { n, d, l, m, u, counter, .. } = z;
+    format!("N {n} D {d} L {l} M {m} U {u} counter {counter} type {kind}, {} form", name(z.form))
+}
+
+/// The sizes as fields of an answer.
+pub fn numbers(z: &Sizes) -> [(&'static str, Json); 9] {
+    let numbers = [
+        ("n", z.n),
+        ("d", z.d),
+        ("l", z.l),
+        ("m", z.m),
+        ("u", z.u),
+        ("counter", z.counter.into()),
+        ("type", z.individual_records.into()),
+        ("capacity", z.capacity),
+        ("room", z.room),
+    ];
+    numbers.map(|(name, number)| (name, Json::number(number)))
 }
 
 /// Text with a word more where the file is old. The current form's lines are the lister's and stay as they are.

@@ -95,7 +95,7 @@ pub fn sync_folder_of(path: &Path) -> Result<(), Failure> {
 /// that a longer one is known for what it is.
 pub fn small_file(path: &Path, most: u64) -> Result<Vec<u8>, Failure> {
     let mut bytes = Vec::new();
-    if path == Path::new("-") {
+    if shown::is_input(path) {
         let read = io::stdin().lock().take(most + 1).read_to_end(&mut bytes);
         read.map_err(|error| Failure::Io(format!("standard input: {error}")))?;
     } else {

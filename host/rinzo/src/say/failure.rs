@@ -10,7 +10,7 @@ use std::path::{Path, PathBuf};
 /// Why a command did not do what it was asked.
 #[derive(Debug)]
 pub enum Failure {
-    /// The library refused: the status is the paper's number, 1 to 19.
+    /// The library refused: the status is the paper's number, 1 to 20.
     Refused(Refused),
     /// The command line is wrong: 64.
     Usage(String),

@@ -12,6 +12,8 @@ pub struct Refused {
     pub why: Refusal,
     /// The file, or for a scan that is to be saved the scan's.
     path: PathBuf,
+    /// It came on standard input, and has no name.
+    is_input: bool,
     /// The slot that was asked for.
     slot: Option<u64>,
     /// How many slots the file has.
@@ -20,12 +22,28 @@ pub struct Refused {
     is_zeros: bool,
     /// What is wrong and what to do, where more is known than the number says.
     cause: Option<String>,
+    /// What else there is to say.
+    beside: Option<String>,
 }
 
 impl Refused {
     /// A refusal of this file.
     pub fn of(path: &Path, why: Refusal) -> Refused {
-        Refused { why, path: path.to_path_buf(), slot: None, slots: None, is_zeros: false, cause: None }
+        Refused {
+            why,
+            path: path.to_path_buf(),
+            is_input: false,
+            slot: None,
+            slots: None,
+            is_zeros: false,
+            cause: None,
+            beside: None,
+        }
+    }
+
+    /// A refusal of the file that came on standard input.
+    pub fn of_input(path: &Path, why: Refusal) -> Refused {
+        Refused { is_input: true, ..Refused::of(path, why) }
     }
 
     /// The same, of the slot that was asked for.
@@ -46,6 +64,19 @@ impl Refused {
     /// The same, for a cause that is known.
     pub fn because(self, cause: String) -> Refused {
         Refused { cause: Some(cause), ..self }
+    }
+
+    /// The same, with something else to say at its end.
+    pub fn beside(self, beside: Option<String>) -> Refused {
+        Refused { beside, ..self }
+    }
+
+    /// What looks for the scans where the index is damaged.
+    fn finder(&self) -> String {
+        match self.is_input {
+            true => "`rinzo find` looks for the scans of a saved file".to_string(),
+            false => format!("`rinzo find {}` looks for the scans", shown::name(&self.path)),
+        }
     }
 
     /// The slot that the refusal is about, where it is about one.
@@ -72,7 +103,15 @@ impl Refused {
 
 impl fmt::Display for Refused {
     fn fmt(&self, f: &mut fmt::Formatter) -> fmt::Result {
-        let (number, file) = (self.why.number(), shown::name(&self.path));
+        self.sentence(f)?;
+        self.beside.iter().try_for_each(|beside| write!(f, "; {beside}"))
+    }
+}
+
+impl Refused {
+    fn sentence(&self, f: &mut fmt::Formatter) -> fmt::Result {
+        let number = self.why.number();
+        let file = if self.is_input { "standard input".to_string() } else { shown::name(&self.path) };
         match (self.why, self.its_slot()) {
             _ if self.is_zeros => write!(
                 f,
@@ -91,8 +130,9 @@ impl fmt::Display for Refused {
             }
             (Refusal::BadEntry(slot) | Refusal::EntryAboveUsed(slot) | Refusal::SharedRecord(slot), _) => write!(
                 f,
-                "refused {number} slot {slot}: {file}: {}; without one, `rinzo find {file}` looks for the scans without the index",
-                self.why.sentence()
+                "refused {number} slot {slot}: {file}: {}; without one, {} without the index",
+                self.why.sentence(),
+                self.finder()
             ),
             (_, Some(slot)) => write!(f, "refused {number} slot {slot}: {file}: {}", self.why.sentence()),
             (_, None) => write!(f, "refused {number}: {file}: {}", self.why.sentence()),

@@ -23,6 +23,11 @@ pub fn name(path: &Path) -> String {
     text
 }
 
+/// Whether a name stands for standard input, where a command takes that.
+pub fn is_input(path: &Path) -> bool {
+    path == Path::new("-")
+}
+
 /// Lines of which some words may be somebody else's; the lines stay lines.
 pub fn lines(text: &str) -> String {
     let mut shown = String::with_capacity(text.len());

@@ -133,6 +133,19 @@ const GAPS_DETAILS: &str =
     "Jobs that were confirmed leave zeros in data records that belong to no scan. Where some are not zeros, a line
 says how many; it is no damage, but what they hold can be read. `rinzo sweep` makes a copy without it.";
 
+/// Of the file that `check` judges as it comes.
+const STREAM_DETAILS: &str =
+    "With - for FILE, standard input is judged as it comes, to its end and in little memory: the verdict is the whole
+file's, but scans are not counted or read, nor records of no scan looked into. Its length has to be known before its
+bytes: it is a plain file's own (rinzo check - <FILE), and --length N gives it of a pipe. Where fewer bytes come, the
+verdict stands if bootstrap and index are among them, else it is 20; what comes beyond them is not looked at.";
+
+/// What goes with `check`.
+const CHECK: [Opt; 2] = [
+    flag("scans", "read every scan too, and list each that breaks a rule; status 11 where one does"),
+    opt("length", "N", "of standard input: how many bytes the file has"),
+];
+
 /// Of every command that reads a scan.
 const READ_DETAILS: &str =
     "A scan that an old file says is not SDD version 1 is refused with 18; `rinzo show` writes its records out.";
@@ -205,8 +218,9 @@ pub static COMMANDS: [Command; 17] = [
             "Scans that an old file says are not SDD version 1 are listed, and are no damage.",
             USED_DETAILS,
             GAPS_DETAILS,
+            STREAM_DETAILS,
         ],
-        options: &[&[flag("scans", "read every scan too, and list each that breaks a rule; status 11 where one does")]],
+        options: &[&CHECK],
     },
     Command {
         name: "entry",
@@ -377,7 +391,7 @@ pub fn is_file(name: &str) -> bool {
 /// What ends a run: the status, and when.
 pub const STATUSES: [(&str, &str); 9] = [
     ("0", "done"),
-    ("1 to 19", "refused with this number"),
+    ("1 to 20", "refused with this number"),
     ("64", "bad usage"),
     ("66", "no such file"),
     ("73", "something would be lost or doubled (the sentence names the option that does it)"),

@@ -1,0 +1,4 @@
+pub mod Elements
+pub mod Slotting
+pub mod Pieces
+pub mod Verdicts
