@@ -1,20 +1,19 @@
 -- The answers of the bootstrap's judgement, one law for each return.
-use Prim.Native.Nat.{ℕ, _+_, _-_, _*_, _≤_, _<_}
-use mathlib.Core.Path.{_≡_, sym, _∙_, ap, subst}
+use Prim.Native.Nat.{ℕ, _-_, _*_, _≤_, _<_}
+use mathlib.Core.Path.{_≡_, sym, _∙_, ap}
 use mathlib.Core.Bool.{Bool, true, false, not}
 use mathlib.Core.List.{List}
 use native.Mathlib.Nat.{mul-le-mul}
 use native.Mathlib.Omega.{arith}
-use lib.Dec.{ltb}
 use lib.ListN.{length}
-use borrow.Author.Tests.{lt-ltb, le-ltb, eq-eqb, ne-eqb, not-true, not-false}
-use Rattle.lent.specs.Number.{be16, be32, widened}
+use borrow.Author.Tests.{lt-ltb, le-ltb, not-true, not-false}
+use Rattle.lent.specs.Number.{be16, be32}
 use Rattle.lent.proofs.Lists.{not-so, true≢false}
 use Rattle.paper.specs.declared.sizes.Sizes.{Sizes}
 use Rattle.paper.specs.declared.refusal.Refusal.the-variants.{TooShort, UnknownForm, OutOfRange, PastEnd}
 use Rattle.paper.specs.declared.answer.Opened.{Opened}
 use Rattle.paper.specs.declared.answer.Opened.the-variants.{Opens, Refused}
-use Rattle.paper.specs.Sizes.{byForm, wordAt, counterOf, typeOf, sizesOf, versionOf, bytesOf, shaped, inRange, Shaped, Ranged}
+use Rattle.paper.specs.Sizes.{wordAt, counterOf, typeOf, sizesOf, versionOf, bytesOf, shaped, inRange, Shaped, Ranged}
 use Rattle.paper.specs.Index.{bootOf, sizedOf}
 use Rattle.paper.proofs.Forms.{by-old, by-current}
 use Rattle.paper.proofs.Opening.{shaped-facts, facts-shaped, range-facts, facts-range}

@@ -1,8 +1,8 @@
 -- A row of 32-bit numbers that holds the entries in use: first and last of each slot, in slot order.
-use Prim.Native.Nat.{ℕ, _+_, _-_, _*_, _≤_, _<_}
+use Prim.Native.Nat.{ℕ, _+_, _*_, _≤_, _<_}
 use mathlib.Core.Path.{_≡_}
 use mathlib.Core.List.{List}
-use lib.ListN.{length, getD}
+use lib.ListN.{length}
 use Rattle.lent.specs.Number.{Plain}
 use Rattle.lent.specs.Least.{None}
 use Rattle.paper.specs.declared.sizes.Sizes.{Sizes}

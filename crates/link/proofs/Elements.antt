@@ -4,11 +4,9 @@ use mathlib.Core.Path.{_≡_, refl, sym, _∙_, ap}
 use mathlib.Core.List.{List, [], _∷_, _++_}
 use native.Mathlib.Omega.{arith}
 use native.Mathlib.Nat.{sub-zero}
-use lib.ListN.{length, take, drop, getD}
-use lib.Seq.{take-nil, take-suc, length-take-le, take-all}
-use lib.ListN.{take-append-drop}
+use lib.ListN.{length, take, drop, getD, take-append-drop}
+use lib.Seq.{take-nil, take-suc, length-take-le}
 use Rattle.lent.specs.Number.{be16, be32, widened}
-use Rattle.lent.specs.Part.{part}
 use Rattle.lent.proofs.Parts.{part-none, part-past}
 use Rattle.paper.specs.declared.sizes.Sizes.{Sizes}
 use Rattle.paper.specs.Sizes.{wordAt}

@@ -29,7 +29,7 @@ use Rattle.paper.specs.Index.{sizedOf}
 use Rattle.paper.specs.Link.{freshLink, headOf, headed, indexEnd, endAfter, bodyOf, rowAfter, tookLink, tookRow, beginOf, takeOf, takeRow}
 use Rattle.paper.proofs.Forms.{by-old, by-current}
 use Rattle.paper.proofs.Opening.{opens-clear, refused-fires, range-facts}
-use Rattle.paper.proofs.Linking.{elements-most, row-after-none, head-short, head-min, head-most, took-headless, took-row-headless, took-still, took-row-still, begin-short, begin-long, take-short, take-long, take-row-short, take-row-long}
+use Rattle.paper.proofs.Linking.{elements-most, row-after-none, head-short, head-min, took-headless, took-row-headless, took-still, took-row-still, begin-short, begin-long, take-short, take-long, take-row-short, take-row-long}
 use Rattle.link.specs.Taking.{counted, shaping, shapeOf}
 use Rattle.link.proofs.Slotting.{shape-row}
 

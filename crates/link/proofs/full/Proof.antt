@@ -2,7 +2,6 @@ use Rattle.lent.proofs.Lists.{true≢false}
 use borrow.Author.Tests.{leb-true}
 use mathlib.Core.Path.{refl}
 use native.Mathlib.Omega.{arith}
-use borrow.Author.Needs.{needs}
 use Rattle.link.proofs.full.Statement.{statement}
 use Rattle.link.proofs.full.Tie as tie
 

@@ -2,7 +2,6 @@ use Rattle.link.proofs.Slotting.{slot-small, went-none, went-more, next
 use Rattle.paper.specs.Sizes.{capacityOf}
 use Prim.Native.Nat.{_<_}
 use native.Mathlib.Omega.{arith}
-use borrow.Author.Needs.{needs}
 use Rattle.link.proofs.slots.ended.Statement.{statement}
 use Rattle.link.proofs.slots.ended.Tie as tie
 

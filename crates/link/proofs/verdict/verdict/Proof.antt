@@ -1,7 +1,6 @@
 use Rattle.paper.proofs.Linking.{finish-small, finish-short, finish-early}
 use mathlib.Core.Path.{sym}
 use native.Mathlib.Omega.{arith}
-use borrow.Author.Needs.{needs}
 use Rattle.link.proofs.verdict.verdict.Statement.{statement}
 use Rattle.link.proofs.verdict.verdict.Tie as tie
 
