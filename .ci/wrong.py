@@ -13,6 +13,9 @@ STATEMENTS = ("Lib", "Known", "Numbers")
 # A small reader of the part of the language that the definitions are written in. A node knows where its text stands in the file.
 
 TOKEN = re.compile(r"--[^\n]*|[(){};]|[^\s(){};]+")
+# A field is written tight after what it is of: `z.n`, `j.run.first`, `(run s).first`. What a module's other name stands before, as
+# `step.Refused`, begins with a large letter and is one name.
+FIELDS = re.compile(r"^((?:[^\W\d]\w*)?)((?:\.[a-z]\w*)+)$")
 RIGHT, LEFT = "right", "left"
 LEVELS = [({"→"}, RIGHT), ({"×"}, RIGHT), ({"≡", "≤", "<"}, LEFT), ({"∷", "++"}, RIGHT), ({"+", "-"}, LEFT), ({"*", "/", "%"}, LEFT)]
 OPERATORS = set().union(*(names for names, _ in LEVELS)) | {"=", ":"}
@@ -30,8 +33,17 @@ class Reader:
     """Reads one expression from the tokens of a piece of text."""
 
     def __init__(self, text, start, end):
-        self.tokens = [(m.group(), m.start(), m.end()) for m in TOKEN.finditer(text, start, end) if not m.group().startswith("--")]
+        self.tokens = [t for m in TOKEN.finditer(text, start, end) if not m.group().startswith("--") for t in self.parted(m)]
         self.at = 0
+
+    def parted(self, match):
+        """A token, and the fields after it apart, each with its dot."""
+        found, at = FIELDS.match(match.group()), match.start()
+        if not found:
+            return [(match.group(), at, match.end())]
+        pieces = [found[1]] * bool(found[1]) + ["." + name for name in found[2].split(".")[1:]]
+        ends = [at + sum(len(p) for p in pieces[: i + 1]) for i in range(len(pieces))]
+        return [(p, end - len(p), end) for p, end in zip(pieces, ends)]
 
     def whole(self):
         """The expression, and nothing after it: what is not understood is not passed over."""
@@ -65,14 +77,18 @@ class Reader:
         return node
 
     def call(self):
-        parts = [self.atom()]
+        parts = [self.projected()]
         while self.peek() is not None and self.peek() not in OPERATORS and self.peek() not in (")", "}", ";"):
-            if self.peek().startswith("."):
-                name, start, end = self.take()
-                parts = [Node("field", parts[0].start, end, [self.joined(parts)], name=name[1:], at=start + 1)]
-            else:
-                parts.append(self.atom())
+            parts.append(self.projected())
         return self.joined(parts)
+
+    def projected(self):
+        """An atom, with the fields that are written after it."""
+        node = self.atom()
+        while self.peek() is not None and self.peek().startswith(".") and len(self.peek()) > 1 and self.tokens[self.at][1] == node.end:
+            name, start, end = self.take()
+            node = Node("field", node.start, end, [node], name=name[1:], at=start + 1)
+        return node
 
     def joined(self, parts):
         return parts[0] if len(parts) == 1 else Node("call", parts[0].start, parts[-1].end, parts)
@@ -221,8 +237,8 @@ OTHERS = {"bool": "Bool", "i16": "ℤ", "f32": "Float", "f64": "Float"}
 LIBRARY = {
     "leb": "ℕ → ℕ → Bool", "ltb": "ℕ → ℕ → Bool", "eqb": "ℕ → ℕ → Bool", "not": "Bool → Bool", "true": "Bool", "false": "Bool",
     "max": "ℕ → ℕ → ℕ", "min": "ℕ → ℕ → ℕ", "take": "ℕ → List ℕ → List ℕ", "drop": "ℕ → List ℕ → List ℕ", "pos": "ℕ → ℤ",
-    "cond": "Bool → A → A → A", "getD": "List A → ℕ → A → A", "replicate": "ℕ → A → List A", "check": "Bool → R → Check R",
-    "ofBits": "Format → ℕ → Float", "length": "List A → ℕ",
+    "cond": "Bool → A → A → A", "get_or": "List A → ℕ → A → A", "replicate": "ℕ → A → List A", "check": "Bool → R → Check R",
+    "of_bits": "Format → ℕ → Float", "length": "List A → ℕ",
 }
 
 
@@ -360,7 +376,7 @@ class Maker:
 
     def meant(self, alias, case, enum):
         """The module imports this case from this enum."""
-        line = next((self.text[a:b] for a, b in self.module.imports if f".{enum}.the-variants" in self.text[a:b]), "")
+        line = next((self.text[a:b] for a, b in self.module.imports if f".{enum}.TheVariants" in self.text[a:b]), "")
         return line.rstrip().endswith(f" as {alias}") if alias else re.search(rf"[{{ ]{case}[,}}]", line)
 
     def bring(self, name, other):
@@ -382,7 +398,7 @@ class Maker:
         sign, start, end = node.op
         if sign in SIGNS:
             other = SIGNS[sign]
-            self.add("sign", [(start, end, other)] + self.bring(f"_{sign}_", f"_{other}_"), frame)
+            self.add("sign", [(start, end, other)] + self.bring(f"◌{sign}◌", f"◌{other}◌"), frame)
         if sign not in EVEN:
             self.swap("arguments", *node.kids, frame)
 

@@ -1,7 +1,7 @@
 /* sdd.h: the store for SDD files, for programs in C and in languages that speak C.
  *
- * Link target/staticlib/libsdd.a (x86-64; `rt staticlib sdd` writes it), or the object that
- * host/native makes of the same module on another processor. Rust programs use the crate host/sdd.
+ * Link the library that `host/library` makes and names (x86-64: the archive of `rt lib`), or that of
+ * `host/library TARGET` for another processor. Rust programs use the crate host/sdd.
  * sdd_plain.h beside this file has, in plain C that is not proved, the entry's 54 bytes from fields
  * and back, and a sentence for each refusal. host/example/save.c saves a scan to a real file.
  *

@@ -23,7 +23,7 @@ enum { PROT_NONE = 0, PROT_READ = 1, PROT_READ_WRITE = 3, MAP_PRIVATE = 2, MAP_A
 enum { CALLS = 19, LIST = 1, FIND = 15, UNTOUCHED = 0x5a };
 /* a file above this size is not compared whole after every call, but when the next one comes */
 #define LARGE ((size_t)1 << 20)
-/* a multiple of every page size there is, on whatever machine the emulator runs */
+/* a multiple of every page size there is */
 #define PAGE ((size_t)65536)
 
 static const char *const NAMES[CALLS] = {"open", "list",  "entry", "show", "read",  "class",      "data",

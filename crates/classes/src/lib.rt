@@ -1,4 +1,6 @@
 //! A reader that walks the classes of one scan in order: thin functions over the covered lookup on slice and number.
+#![tactic(auto)]
+
 ghost use Rattle.std.specs.Prelude.{◌≡◌};
 ghost use Rattle.lent.specs.Part.{bytes_on};
 ghost use Rattle.paper.specs.Refusals.{span_says};
@@ -8,7 +10,7 @@ ghost use Rattle.classes.specs.Walk.{next_of};
 use paper::answer::Span;
 use scan::preamble;
 
-#[derive(Drop)]
+#[derive(Clone, Copy)]
 pub struct Reader<'a> {
     pub scan: &'a [u8],
     pub number: usize,
@@ -31,7 +33,7 @@ pub fn here<'a>(r: Reader<'a>) -> Span
 // The bytes of that class.
 pub fn bytes<'a>(r: Reader<'a>) -> &'a [u8]
     ensures bytes { result.now ≡ part_of r.entry.scan.now (class_of r.entry.scan.now r.entry.number) }
-    ensures place { result.ref_ptr ≡ bytes_on (span_place r.entry.scan.now (class_of r.entry.scan.now r.entry.number)) r.entry.scan.ptr }
+    ensures place { result.ref_ptr ≡ bytes_on (span_place r.entry.scan.now (class_of r.entry.scan.now r.entry.number)) r.entry.scan.ref_ptr }
 {
     scan::class_part(r.scan, r.number)
 }

@@ -1,4 +1,6 @@
 //! A file moved to the other form: its bootstrap and index go to a second lent buffer, N records. Its data section is the same in either form.
+#![tactic(auto)]
+
 ghost use Rattle.std.specs.Prelude.{◌≡◌};
 ghost use Rattle.paper.specs.Refusals.{taken_says};
 ghost use Rattle.paper.specs.Convert.{convert_of, converted_out};

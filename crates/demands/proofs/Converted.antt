@@ -9,6 +9,7 @@ use borrow.Author.Tests.{eq-eqb, ne_eqb}
 use lib.Dec.{ltb}
 use lib.IntN.{ℤ}
 use lib.ListN.{length, take, drop, take-append-drop}
+use lib.Seq.{take_at}
 use Rattle.lent.specs.Checks.{Check, check, Fired, clear, fires, fired, answer, judge}
 use Rattle.lent.specs.Number.{be16, int16}
 use Rattle.lent.specs.Part.{part, Alike}
@@ -26,11 +27,11 @@ use Rattle.paper.specs.declared.answer.Listed.TheVariants as listed
 use Rattle.paper.specs.declared.answer.Taken.TheVariants as taken
 use Rattle.paper.specs.declared.entry.Entry.{Entry}
 use Rattle.paper.specs.declared.entry.Found.{Found}
-use Rattle.paper.specs.Sizes.{sizes_of, version_of, home_of, start_of, capacity_of}
+use Rattle.paper.specs.Sizes.{by_form, sizes_of, version_of, home_of, start_of, capacity_of}
 use Rattle.paper.specs.Index.{run_of, empty, Full, slots_of, shown_of, Sound}
 use Rattle.paper.specs.Entry.{fields_of, magic_of, version_one, no_entry}
 use Rattle.paper.specs.Look.{slot_checks, found_of, lines_of, list_of, list_checks, listed_of, listed_out, InIndex}
-use Rattle.paper.specs.Convert.{in_form, carried_at, records_as, convert_of, converted_out, Sayable, Convertible}
+use Rattle.paper.specs.Convert.{in_form, carried_at, records_as, convert_of, converted_out, Sayable, Convertible, Zeroed}
 use Rattle.paper.proofs.Opening.{then-opens, sound-open, inside-all, full-holds, slots-holds, lies-past, lies-end}
 use Rattle.paper.proofs.Forms.{facts-one}
 use Rattle.paper.proofs.Carrying.{middle-short, length-records-as}
@@ -38,8 +39,10 @@ use Rattle.paper.proofs.Converting.{convert-taken, taken-convert, taken_out}
 use Rattle.paper.proofs.Reforming.{reform-length, reform-data, reform-position, reform-magic, reform-middle, reform-run, reform-sound}
 use Rattle.paper.proofs.Homing.{joined_is, home-records, home-rest, own-sayable, home-taken, old-records, current-records}
 use Rattle.demands.specs.Entries.{Bytes, with_magic}
-use Rattle.demands.specs.Convert.{converted, magic_in, Lists, SameBut, There, Home, Converts}
+use Rattle.demands.specs.Convert.{converted, magic_in, Lists, SameBut, There, Home, SameData, Agree, Converts, ConvertsMore}
 use Rattle.demands.proofs.Calling.{both, show-same, shows_same, read_same, reads_same, fields-rest, magic-kept}
+use Rattle.demands.proofs.Reformed.{reform-section, reform-zeroed}
+use Rattle.demands.proofs.Bytewise.{bytes-append, bytes_drop, bytes-records}
 
 -- the lines of a list rest on the runs of its slots
 lines_same : (r q : ℕ → Run) (ss : List ℕ) → ((s : ℕ) → Memᴰ s ss → r s ≡ q s) → lines_of r ss ≡ lines_of q ss
@@ -154,13 +157,13 @@ module _ (v : ℕ) (form : v ≤ 1) {f : List ℕ} {z : Sizes} (S : Sound f z) (
     abbrev nothing-found : Refusal → Found
     nothing-found r = record { answer = taken.Refused r; entry = no_entry }
 
-    abbrev found_of : List ℕ → Sizes → Found
-    found_of h x = record { answer = taken.Accepted; entry = fields_of x.version h (home_of x s) }
+    abbrev found-of : List ℕ → Sizes → Found
+    found-of h x = record { answer = taken.Accepted; entry = fields_of x.version h (home_of x s) }
 
-    found-same : found_of g s ≡ judge nothing-found (slot_checks f s) (found-with (magic_in v) (found_of f (sizes_of f)))
+    found-same : found_of g s ≡ judge nothing-found (slot_checks f s) (found-with (magic_in v) (found-of f (sizes_of f)))
     unfolding found_of
     found-same =
-        both f g z z.d z.u z.counter z.kind v S G s runs nothing-found (found_of g) (λ x. found-with (magic_in v) (found_of f x))
+        both f g z z.d z.u z.counter z.kind v S G s runs nothing-found (found-of g) (λ x. found-with (magic_in v) (found-of f x))
         (λ i full. ap (λ (e : Entry). record { answer = taken.Accepted; entry = e }) (fields i full))
 
     there-slot : SameBut v f g s
@@ -181,15 +184,15 @@ module _ (v : ℕ) (form : v ≤ 1) {f : List ℕ} {z : Sizes} (S : Sound f z) (
         found-answer : (found_of g s).answer ≡ (found_of f s).answer
         found-answer = ap (λ (q : Found). q.answer) found-same ∙ go x
           where
-            go : (q : Fired Refusal) → (answer nothing-found (found-with (magic_in v) (found_of f (sizes_of f))) q).answer ≡ (answer nothing-found (found_of f (sizes_of f)) q).answer
+            go : (q : Fired Refusal) → (answer nothing-found (found-with (magic_in v) (found-of f (sizes_of f))) q).answer ≡ (answer nothing-found (found-of f (sizes_of f)) q).answer
             go clear = refl
             go (fires r) = refl
 
         found-entry : (found_of f s).answer ≡ taken.Accepted → (found_of g s).entry ≡ with_magic (magic_in v) (found_of f s).entry
         found-entry e = ap (λ (q : Found). q.entry) found-same ∙ go x e
           where
-            go : (q : Fired Refusal) → (answer nothing-found (found_of f (sizes_of f)) q).answer ≡ taken.Accepted
-                → (answer nothing-found (found-with (magic_in v) (found_of f (sizes_of f))) q).entry ≡ with_magic (magic_in v) (answer nothing-found (found_of f (sizes_of f)) q).entry
+            go : (q : Fired Refusal) → (answer nothing-found (found-of f (sizes_of f)) q).answer ≡ taken.Accepted
+                → (answer nothing-found (found-with (magic_in v) (found-of f (sizes_of f))) q).entry ≡ with_magic (magic_in v) (answer nothing-found (found-of f (sizes_of f)) q).entry
             go clear e = refl
             go (fires r) e = let w : ◌≡◌ {A = ℕ} 0 1 = cc in absurd (omega arith)
 
@@ -271,6 +274,12 @@ module _ (v : ℕ) (form : v ≤ 1) {f out : List ℕ} {z : Sizes} (C : Converti
     pub home-shows : Home f (converted z.version (converted v f out) back)
     home-shows = subst (Home f) (sym came) (home-is C.sound own-form low)
 
+    pub home-section : SameData f (converted z.version (converted v f out) back)
+    home-section = subst (SameData f) (sym came) (reform-section z.version (form-own C.sound own-form low) C.sound own-form low)
+
+    pub home-long : length (converted z.version (converted v f out) back) ≡ length f
+    home-long = subst (λ (x : List ℕ). length x ≡ length f) (sym came) (T C.sound own-form low).as_long
+
     -- the N records are the file's own
     pub home-bytes : records_as z.version z (carried_at f z) ≡ take (z.n * z.l) f → converted z.version (converted v f out) back ≡ f
     home-bytes e = came ∙ ap (λ (x : List ℕ). x ++ drop (z.n * z.l) f) e ∙ take-append-drop (z.n * z.l) f
@@ -287,6 +296,34 @@ beyond-is v f out e =
       ap (drop (z.n * z.l)) w ∙ ap (λ (k : ℕ). drop k (write out 0 recs)) (sym q) ∙ drop-write out 0 recs (omega arith) ∙ ap (λ (k : ℕ). drop k out) q,
       ap length w ∙ length-write out 0 recs (omega (arith, C.room)),
     )
+
+-- padding and empty entries of what was made
+zeroed-is : (v : ℕ) → v ≤ 1 → (f out : List ℕ) → Bytes f → convert_of v f out ≡ taken.Accepted
+    → Zeroed (converted v f out) (sizes_of (converted v f out)) (by_form v 12 32) (by_form v 60 62)
+zeroed-is v form f out low e =
+    let C = convert-taken v f out e in
+    let G = reform-sound v form C.sound C.sayable low in
+    subst (λ (x : List ℕ). Zeroed x (sizes_of x) (by_form v 12 32) (by_form v 60 62)) (sym (joined_is v C))
+    (subst (λ (y : Sizes). Zeroed (records_as v (sizes_of f) (carried_at f (sizes_of f)) ++ drop ((sizes_of f).n * (sizes_of f).l) f) y (by_form v 12 32) (by_form v 60 62))
+    (sym G.booted.reads) (reform-zeroed v form C.sound C.sayable low))
+
+-- what is written are the file's records, whatever is lent for them
+written_is : (v : ℕ) {f out : List ℕ} {z : Sizes} → Convertible v f out z → take (z.n * z.l) (converted_out v f out) ≡ records_as v z (carried_at f z)
+unfolding write
+written_is v {f} {out} {z} C =
+    let recs : List ℕ = records_as v z (carried_at f z) in
+    ap (take (z.n * z.l)) (taken_out v f out C)
+    ∙ take_at recs (drop (0 + length recs) out) (z.n * z.l) (length-records-as v z (carried_at f z) C.sound.booted.ranged.shape (middle-short f z))
+
+agree-is : (v : ℕ) (f out other : List ℕ) → convert_of v f out ≡ taken.Accepted → (sizes_of f).n * (sizes_of f).l ≤ length other → Agree v f out other
+agree-is v f out other e fits =
+    let C = convert-taken v f out e in
+    let D : Convertible v f other (sizes_of f) = record { sound = C.sound; room = fits; other = C.other; sayable = C.sayable } in
+    record {
+      taken = taken-convert v f other D;
+      written = written_is v D ∙ sym (written_is v C);
+      made = joined_is v D ∙ sym (joined_is v C);
+    }
 
 pub converts : Converts
 converts =
@@ -314,3 +351,20 @@ converts =
 
     version-current : (f : List ℕ) {out : List ℕ} → Convertible 0 f out (sizes_of f) → version_of f ≡ 1
     version-current f C = ⊎_elim (λ (h : version_of f ≡ 0). absurd (C.other h)) (λ (h : version_of f ≢ 0). omega (arith, C.sound.booted.version)) (same_or (version_of f) 0)
+
+pub converts-more : ConvertsMore
+converts-more =
+    record {
+      section = λ v form f out low e.
+          let C = convert-taken v f out e in
+          subst (SameData f) (sym (joined_is v C)) (reform-section v form C.sound C.sayable low);
+      home_section = λ v form f out back low e fits. home-section v form (convert-taken v f out e) low back fits;
+      home_long = λ v form f out back low e fits. home-long v form (convert-taken v f out e) low back fits;
+      bytes = λ v f out low e.
+          let C = convert-taken v f out e in
+          subst Bytes (sym (joined_is v C))
+          (bytes-append (records_as v (sizes_of f) (carried_at f (sizes_of f))) (drop ((sizes_of f).n * (sizes_of f).l) f) (bytes-records v f (sizes_of f) low) (bytes_drop ((sizes_of f).n * (sizes_of f).l) f low));
+      old_zeroed = zeroed-is 0 (omega arith);
+      current_zeroed = zeroed-is 1 (omega arith);
+      any_buffer = agree-is;
+    }

@@ -1,10 +1,11 @@
 -- Demand 2, of the entry as the call gives it.
-use Prim.Native.Nat.{ℕ, ◌+◌, ◌-◌, ◌%◌, ◌≤◌, ◌<◌}
+use Prim.Native.Nat.{ℕ, ◌+◌, ◌-◌, ◌*◌, ◌%◌, ◌≤◌, ◌<◌}
 use mathlib.Core.Path.{◌≡◌, refl, sym, ◌∙◌, ap, subst}
 use mathlib.Core.Bool.{true, false}
 use mathlib.Core.List.{List, [], ◌∷◌, ◌++◌}
 use mathlib.Core.Logic.{⊎_elim}
 use native.Mathlib.Omega.{arith}
+use native.Mathlib.Nat.{add-zero}
 use borrow.Author.Tests.{lt-ltb, le-ltb, lt-leb, le-leb, leb-true}
 use lib.Dec.{leb}
 use lib.Ieee.{Float, binary32, binary64, of_bits}
@@ -25,18 +26,18 @@ use Rattle.paper.specs.declared.answer.Taken.TheVariants.{Accepted, Refused}
 use Rattle.paper.specs.declared.entry.Found.{Found}
 use Rattle.paper.specs.Refusals.{kind_says}
 use Rattle.paper.specs.Sizes.{sizes_of, version_of, word_at, home_of}
-use Rattle.paper.specs.Index.{run_of, Full, Sound}
+use Rattle.paper.specs.Index.{run_of, Full, Lies, Sound}
 use Rattle.paper.specs.Entry.{natural_of, kind_of, magic_of, position_of, fields_of, no_entry}
 use Rattle.paper.specs.Look.{slot_checks, found_of}
 use Rattle.paper.specs.Store.{records_for, run_from}
 use Rattle.paper.proofs.Sizing.{home-is, home-in}
-use Rattle.paper.proofs.Opening.{open-sound, open-reads}
+use Rattle.paper.proofs.Opening.{open-sound, open-reads, inside-all}
 use Rattle.paper.proofs.Encoding.{entry-about}
 use Rattle.paper.proofs.Begins.{SlotTaken, slot-is-taken}
 use Rattle.paper.proofs.Reading.{slot-clear}
 use Rattle.paper.proofs.Confirming.{Confirms, ended, saved-entry, saved-run}
 use Rattle.demands.specs.Reads.{entry_byte}
-use Rattle.demands.specs.Entries.{Bytes, bits16, middle_bytes, field_bytes, old_bytes, KindIs, EntryIs, EntryFields, SavedGives}
+use Rattle.demands.specs.Entries.{Bytes, bits16, middle_bytes, field_bytes, old_bytes, KindIs, EntryIs, OldRunIs, OldRuns, EntryFields, SavedGives}
 
 -- ---- the fields, written back
 
@@ -114,6 +115,27 @@ module _ (f : List ℕ) (low : Bytes f) (at : ℕ) (fits : at + 62 ≤ length f)
       (omega arith) (omega arith) (omega arith)
       ∙ from-0 60
 
+-- ---- first and last of an old entry
+
+field-first : (v : ℕ) (f : List ℕ) (at : ℕ) → (fields_of v f at).first ≡ word_at v f at 0
+unfolding fields_of
+field-first v f at = refl
+
+field-last : (v : ℕ) (f : List ℕ) (at : ℕ) → (fields_of v f at).last ≡ word_at v f at 1
+unfolding fields_of
+field-last v f at = refl
+
+-- a 16-bit number that is no record's where it is negative
+widened-own : (x : ℕ) → widened x ≤ 1000000 → (widened x ≡ x) × (widened x < 32768)
+unfolding widened
+widened-own x h =
+    ⊎_elim (λ (l : x < 32768). rw (lt-ltb x 32768 l) (refl, l)) (λ (l : 32768 ≤ x). let q = rw (le-ltb x 32768 l) at h in absurd (omega arith)) (lt-or-ge x 32768)
+
+word-own : (v : ℕ) (f : List ℕ) (at i : ℕ) → v ≡ 0 → word_at v f at i ≤ 1000000 → (word_at v f at i ≡ be16 f (at + 2 * i)) × (word_at v f at i < 32768)
+unfolding word_at
+word-own v f at i e =
+    subst (λ (x : ℕ). word_at x f at i ≤ 1000000 → (word_at x f at i ≡ be16 f (at + 2 * i)) × (word_at x f at i < 32768)) (sym e) (widened-own (be16 f (at + 2 * i)))
+
 pub no_magic : (f : List ℕ) (at : ℕ) → (fields_of 1 f at).magic ≡ pos 0
 unfolding fields_of magic_of int16
 no_magic f at = refl
@@ -190,6 +212,18 @@ module _ (f : List ℕ) (s : ℕ) (c : fired (slot_checks f s) ≡ clear) where
   m₁ : 64 ≤ (sizes_of f).m
   m₁ = S.booted.ranged.shape.m_low
 
+  abbrev at_home : ℕ
+  at_home = home_of (sizes_of f) s
+
+  lies : Lies (sizes_of f) (run_of f (sizes_of f) s)
+  lies = inside-all S.laid s T.slotted.low T.slotted.high
+
+  first-own : version_of f ≡ 0 → (word_at (version_of f) f at_home 0 ≡ be16 f (at_home + 0)) × (word_at (version_of f) f at_home 0 < 32768)
+  first-own v = word-own (version_of f) f at_home 0 v (omega (arith, lies.order T.full, lies.high, S.booted.ranged.records))
+
+  last-own : version_of f ≡ 0 → (word_at (version_of f) f at_home 1 ≡ be16 f (at_home + 2)) × (word_at (version_of f) f at_home 1 < 32768)
+  last-own v = word-own (version_of f) f at_home 1 v (omega (arith, lies.high, S.booted.ranged.records))
+
   pub entry-fields-at : Bytes f → EntryIs f (sizes_of f) s (found_of f s).entry
   entry-fields-at low =
       let at : ℕ = home_of (sizes_of f) s in
@@ -205,18 +239,25 @@ module _ (f : List ℕ) (s : ℕ) (c : fired (slot_checks f s) ≡ clear) where
         kind = rw h (kind-is (version_of f) f at);
       })
 
+  pub old-run-at : OldRunIs f (sizes_of f) s (found_of f s).entry
+  old-run-at =
+      let at : ℕ = home_of (sizes_of f) s in
+      let e : (found_of f s).entry ≡ fields_of (version_of f) f at = ap (λ (x : Found). x.entry) (found-is f s c) in
+      let h : entry_byte (sizes_of f) s ≡ at = home-is (sizes_of f) s in
+      subst (OldRunIs f (sizes_of f) s) (sym e)
+      (record {
+        old_first = λ v. rw h (field-first (version_of f) f at ∙ (first-own v).0 ∙ ap (be16 f) (add-zero at));
+        old_last = λ v. rw h (field-last (version_of f) f at ∙ (last-own v).0);
+        old_small = λ v. rw (field-first (version_of f) f at, field-last (version_of f) f at) ((first-own v).1, (last-own v).1);
+      })
+
 pub entry-fields : EntryFields
 entry-fields f s low e = entry-fields-at f s (found-taken f s e) low
 
+pub old-runs : OldRuns
+old-runs f s e = old-run-at f s (found-taken f s e)
+
 -- ---- after a save
-
-field-first : (v : ℕ) (f : List ℕ) (at : ℕ) → (fields_of v f at).first ≡ word_at v f at 0
-unfolding fields_of
-field-first v f at = refl
-
-field-last : (v : ℕ) (f : List ℕ) (at : ℕ) → (fields_of v f at).last ≡ word_at v f at 1
-unfolding fields_of
-field-last v f at = refl
 
 pub saved-gives : SavedGives
 saved-gives f scan j r count low e k54 =

@@ -33,7 +33,7 @@ use Rattle.demands.proofs.Reading.{reported}
 use Rattle.demands.proofs.Telling.{list-exactly}
 
 -- what holds past the top, and of a record wherever it holds of all after it, holds of every record
-down : (P : ℕ → Type 0) (top : ℕ) → ((r : ℕ) → top < r → P r) → ((r : ℕ) → r ≤ top → ((j : ℕ) → r < j → P j) → P r) → (m r : ℕ) → top < r + m → P r
+pub down : (P : ℕ → Type 0) (top : ℕ) → ((r : ℕ) → top < r → P r) → ((r : ℕ) → r ≤ top → ((j : ℕ) → r < j → P j) → P r) → (m r : ℕ) → top < r + m → P r
 down P top past here zero r h = past r (omega arith)
 down P top past here (suc m) r h =
     ⊎_elim (λ (l : top < r). past r l) (λ (l : r ≤ top). here r l (λ j k. down P top past here m j (omega arith))) (lt-or-ge top r)

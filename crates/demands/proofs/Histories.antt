@@ -111,16 +111,16 @@ module _ {z : Sizes} {f : List ℕ} {op : Op} {j : Job} (B : Starts z f op j) wh
 
 module _ (f : List ℕ) (z : Sizes) (o : open_of f ≡ Opens z) (op : Op) (w : Whole op) where
   -- `change` with the sizes and the verdict named
-  abbrev changeAt : Sizes → Bool → ℕ → Holding → Holding
-  changeAt y t i h s = cond (also t (leb (records_of y op + 2) i)) (put h (slot_of f op) (given f y op) s) (h s)
+  abbrev change_at : Sizes → Bool → ℕ → Holding → Holding
+  change_at y t i h s = cond (also t (leb (records_of y op + 2) i)) (put h (slot_of f op) (given f y op) s) (h s)
 
-  abbrev timesAt : Sizes → Bool → ℕ → ℕ
-  timesAt y t i = cond (also t (leb (records_of y op + 1) i)) 1 0
+  abbrev times_at : Sizes → Bool → ℕ → ℕ
+  times_at y t i = cond (also t (leb (records_of y op + 1) i)) 1 0
 
-  one : (i : ℕ) (t : Bool) → takes f op ≡ t → Outcome z (cond t (state_after f op i).file f) (changeAt z t i (held_at f z)) (timesAt z t i)
+  one : (i : ℕ) (t : Bool) → takes f op ≡ t → Outcome z (cond t (state_after f op i).file f) (change_at z t i (held_at f z)) (times_at z t i)
   one i true e =
       let B = starts f z o op w e in
-      subst (λ (s : State). Outcome z s.file (changeAt z true i (held_at f z)) (timesAt z true i)) (sym (steps-are B.begins i)) (outcome-at B i)
+      subst (λ (s : State). Outcome z s.file (change_at z true i (held_at f z)) (times_at z true i)) (sym (steps-are B.begins i)) (outcome-at B i)
   one i false e = record { d = z.d; u = z.u; c = z.counter; counts = refl; sound = open-sound o; shows = λ t a b. refl }
 
   run-outcome : (cut : Cut) → Outcome z (run f op cut) (change f op cut (held_at f z)) (cond (renews f op cut) 1 0)
@@ -128,7 +128,7 @@ module _ (f : List ℕ) (z : Sizes) (o : open_of f ≡ Opens z) (op : Op) (w : W
   run-outcome cut =
       subst
       (λ (y : Sizes).
-      Outcome z (cond (takes f op) (state_after f op (steps_of cut)).file f) (changeAt y (takes f op) (steps_of cut) (held_at f z)) (timesAt y (takes f op) (steps_of cut)))
+      Outcome z (cond (takes f op) (state_after f op (steps_of cut)).file f) (change_at y (takes f op) (steps_of cut) (held_at f z)) (times_at y (takes f op) (steps_of cut)))
       (sym (open-sound o).booted.reads) (one (steps_of cut) (takes f op) refl)
 
 -- ---- a history

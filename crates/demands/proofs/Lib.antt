@@ -2,6 +2,7 @@ pub mod Start
 pub mod Histories
 pub mod Survived
 pub mod Using
+pub mod Idling
 pub mod Calling
 pub mod Staying
 pub mod Ordered
@@ -11,11 +12,18 @@ pub mod True
 pub mod Reading
 pub mod Fields
 pub mod Telling
+pub mod Recording
 pub mod Zeroing
 pub mod Finding
+pub mod Losing
+pub mod Roomy
 pub mod Linked
+pub mod LinkCounted
 pub mod Unchanged
 pub mod Filled
+pub mod Owning
 pub mod Old
+pub mod Bytewise
+pub mod Reformed
 pub mod Converted
 pub mod Single

@@ -1,5 +1,5 @@
 -- Demand 2, of what list, show, read, class and data answer.
-use Prim.Native.Nat.{ℕ, zero, suc, ◌+◌, ◌-◌, ◌*◌, ◌/◌, ◌≤◌, ◌<◌}
+use Prim.Native.Nat.{ℕ, ◌+◌, ◌-◌, ◌*◌, ◌/◌, ◌≤◌, ◌<◌}
 use mathlib.Core.Path.{◌≡◌, refl, sym, ◌∙◌, ap, subst}
 use mathlib.Core.Bool.{true, false}
 use mathlib.Core.List.{List, [], ◌∷◌, ◌++◌}
@@ -53,11 +53,11 @@ module _ (f : List ℕ) (z : Sizes) (s : ℕ) where
 
 -- three numbers for each element, after checks and then 17: what a call that reports them answers and leaves
 module _ {A : Type 0} (a b c : A → ℕ) (d : A) (cs : List (Check Refusal)) (xs : List A) (out : List ℕ) where
-  abbrev reportChecks : List (Check Refusal)
-  reportChecks = cs ++ (check (ltb (length out) (3 * length xs)) TooSmall ∷ [])
+  abbrev report_checks : List (Check Refusal)
+  report_checks = cs ++ (check (ltb (length out) (3 * length xs)) TooSmall ∷ [])
 
   abbrev left : List ℕ
-  left = judge (λ (r : Refusal). out) reportChecks (write out 0 (threes a b c xs))
+  left = judge (λ (r : Refusal). out) report_checks (write out 0 (threes a b c xs))
 
   pub record Reported (n : ℕ) : Type 0 where
     pub count : n ≡ length xs
@@ -67,16 +67,16 @@ module _ {A : Type 0} (a b c : A → ℕ) (d : A) (cs : List (Check Refusal)) (x
     pub beyond : (i : ℕ) → 3 * n ≤ i → get_or left i 0 ≡ get_or out i 0
     pub as_long : length left ≡ length out
 
-  pub reported : (n : ℕ) → judge listed.Refused reportChecks (listed.Scans (length xs)) ≡ listed.Scans n → Reported n
+  pub reported : (n : ℕ) → judge listed.Refused report_checks (listed.Scans (length xs)) ≡ listed.Scans n → Reported n
   reported n e =
       let ls : List ℕ = threes a b c xs in
-      let p = judge-passed listed.Refused reportChecks (listed.Scans (length xs)) (listed.Scans n) (λ r. never r n) e in
+      let p = judge-passed listed.Refused report_checks (listed.Scans (length xs)) (listed.Scans n) (λ r. never r n) e in
       let k : n ≡ length xs = sym (same (length xs) n p.1) in
       let own : List (Check Refusal) = check (ltb (length out) (3 * length xs)) TooSmall ∷ [] in
       let q = (clear-all own (append-clear cs own p.0).1).0 in
       let l = length-threes a b c xs in
       let fits : length ls ≤ length out = omega (arith, ltb-false (length out) (3 * length xs) q) in
-      let w : left ≡ write out 0 ls = judge-clear (λ (r : Refusal). out) reportChecks (write out 0 ls) p.0 in
+      let w : left ≡ write out 0 ls = judge-clear (λ (r : Refusal). out) report_checks (write out 0 ls) p.0 in
       record {
         count = k;
         one = λ i h. rw w (threes-in a b c xs d out i (omega arith)).0;

@@ -1,5 +1,5 @@
 -- An accepted operation, step by step: its job is ready, and file and job after i steps are those that the laws of `paper` speak of.
-use Prim.Native.Nat.{ℕ, zero, suc, ◌-◌, ◌*◌}
+use Prim.Native.Nat.{ℕ, zero, suc, ◌*◌}
 use mathlib.Core.Path.{◌≡◌, refl, sym, ◌∙◌, ap, subst}
 use mathlib.Core.Bool.{true, cond}
 use mathlib.Core.List.{List, []}

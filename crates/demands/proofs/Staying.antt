@@ -1,12 +1,11 @@
 -- Demand 3, of a slot that no change reached: entry, show and read answer as before, and give the same bytes.
 use Prim.Native.Nat.{ℕ, ◌+◌, ◌-◌, ◌≤◌}
 use mathlib.Core.Path.{◌≡◌, refl, sym, ◌∙◌, ap}
-use mathlib.Core.Bool.{Bool, true, false, not}
+use mathlib.Core.Bool.{Bool, true, false}
 use mathlib.Core.List.{List, [], ◌∷◌}
 use native.Mathlib.Omega.{arith}
 use borrow.Author.Tests.{ne_eqb}
 use lib.ListN.{length, get_or}
-use Rattle.lent.specs.Checks.{answer}
 use Rattle.lent.specs.Number.{int16}
 use Rattle.lent.specs.Part.{part, Alike}
 use Rattle.lent.proofs.Parts.{part_at, part-part, alike-within}

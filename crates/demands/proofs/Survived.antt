@@ -25,7 +25,7 @@ use Rattle.paper.proofs.Sizing.{less, times}
 use Rattle.paper.proofs.Opening.{facts-empty, facts-full, inside-all, slots-all, lies-end, sound-open, open-reads}
 use Rattle.paper.proofs.Writes.{change-lowers, writes-row, writes-boot, writes-entry, writes_lower, writes-zero}
 use Rattle.paper.proofs.Ready.{file_at}
-use Rattle.paper.proofs.Stages.{job_at, sizesAt, stage-wrote, stage-confirms}
+use Rattle.paper.proofs.Stages.{job_at, sizes_at, stage-wrote, stage-confirms}
 use Rattle.demands.specs.History.{Op, Whole, begin, scan_of, records_of, changes_by, writes_by, slot_of, takes, State, answer_after, reached, held_at, Holding, Held, holds}
 use Rattle.demands.specs.Survival.{some, PowerCut, confirmed, Confirmed, Answers, Confirms}
 use Rattle.demands.proofs.Start.{Starts, starts, total-is, steps-are}
@@ -94,7 +94,7 @@ module _ (f : List ℕ) (z : Sizes) (o : open_of f ≡ Opens z) (op : Op) (w : W
   F i = file_at f (scan_of op) j i
 
   abbrev y : ℕ → Sizes
-  y i = sizesAt B.begins.ready B.begins.agreeing i
+  y i = sizes_at B.begins.ready B.begins.agreeing i
 
   wrote : (i : ℕ) → i < writes_by f z op → answer_after f op i ≡ Wrote (get_or (writes_of (F i) (y i) j (scan_of op)) i no_write).record_no (i + 1)
   wrote i h = answer-is i ∙ stage-wrote B.begins.ready B.begins.agreeing i (omega (arith, total-is B))

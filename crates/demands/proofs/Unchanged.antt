@@ -10,7 +10,7 @@ use lib.ListN.{length}
 use Rattle.lent.specs.Checks.{Check, check, Fired, clear, fires, fired, answer, judge}
 use Rattle.lent.proofs.Checks.{judge-fires, judge-refused}
 use Rattle.paper.specs.declared.refusal.Refusal.{Refusal}
-use Rattle.paper.specs.declared.refusal.Refusal.TheVariants.{TooShort, OldForm, UnknownForm, OutOfRange, PastEnd, BadEntry, AboveUse, SharedRecord, NoSuchSlot, EmptySlot, BadScan, NoEmptySlot, NoRoom, Disagrees, Differs, BadBlank, TooSmall, NotVersionOne, NotConvertible, NotAllCame}
+use Rattle.paper.specs.declared.refusal.Refusal.TheVariants.{NoEmptySlot, Disagrees}
 use Rattle.paper.specs.declared.answer.Listed.TheVariants as listed
 use Rattle.paper.specs.declared.answer.Taken.{Taken}
 use Rattle.paper.specs.declared.answer.Taken.TheVariants as taken
@@ -18,7 +18,6 @@ use Rattle.paper.specs.declared.entry.Found.{Found}
 use Rattle.paper.specs.declared.job.Job.{Job}
 use Rattle.paper.specs.declared.job.Begun.{Begun}
 use Rattle.paper.specs.declared.job.Step.TheVariants as step
-use Rattle.paper.specs.Refusals.{number_of}
 use Rattle.paper.specs.Sizes.{sizes_of}
 use Rattle.paper.specs.Index.{change_checks, open_of}
 use Rattle.paper.specs.Entry.{no_entry}
@@ -26,6 +25,7 @@ use Rattle.paper.specs.Scan.{part_of}
 use Rattle.paper.specs.Look.{list_of, list_checks, listed_of, listed_out, no_slot, held_checks, slot_checks, found_of}
 use Rattle.paper.specs.Store.{blank_sizes, blank_checks, blank_of, blank_file, refused, accepted, no_job, save_job, clear_job, keep_slot, scan_checks, save_of, keep_of, clear_of, total_of}
 use Rattle.paper.specs.Step.{agrees, has_left, write_at, confirm_of, step_file, step_job, step_answer}
+use Rattle.paper.proofs.Answers.{numbered}
 use Rattle.paper.proofs.Agreement.{disagreeing, file-refused, job-refused, answer-refused, step_past, job-past}
 use Rattle.paper.specs.Find.{find_of, find_checks, report_of, report_out}
 use Rattle.paper.specs.Convert.{convert_checks, convert_of, converted_out}
@@ -106,28 +106,6 @@ step_kept f scan j r true true p q e = let z : ◌≡◌ {A = ℕ} 0 1 = cc in a
 step_kept f scan j r true false p q e =
     let h : total_of (sizes_of f) j ≤ j.written = ltb-false j.written (total_of (sizes_of f) j) q in
     (step_past f scan j (sizes_of f) p refl h, job-past f scan j (sizes_of f) p refl h)
-
-numbered : (r : Refusal) → (1 ≤ number_of r) × (number_of r ≤ 20)
-numbered TooShort = (omega arith, omega arith)
-numbered OldForm = (omega arith, omega arith)
-numbered UnknownForm = (omega arith, omega arith)
-numbered OutOfRange = (omega arith, omega arith)
-numbered PastEnd = (omega arith, omega arith)
-numbered (BadEntry slot) = (omega arith, omega arith)
-numbered (AboveUse slot) = (omega arith, omega arith)
-numbered (SharedRecord slot) = (omega arith, omega arith)
-numbered NoSuchSlot = (omega arith, omega arith)
-numbered EmptySlot = (omega arith, omega arith)
-numbered (BadScan reason) = (omega arith, omega arith)
-numbered NoEmptySlot = (omega arith, omega arith)
-numbered NoRoom = (omega arith, omega arith)
-numbered Disagrees = (omega arith, omega arith)
-numbered Differs = (omega arith, omega arith)
-numbered BadBlank = (omega arith, omega arith)
-numbered TooSmall = (omega arith, omega arith)
-numbered NotVersionOne = (omega arith, omega arith)
-numbered NotConvertible = (omega arith, omega arith)
-numbered NotAllCame = (omega arith, omega arith)
 
 pub untouched : Untouched
 unfolding convert_of converted_out blank_of blank_file listed_of listed_out report_of report_out found_of save_of keep_of clear_of step_answer begin_of take_of take_row

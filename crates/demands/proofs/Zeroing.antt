@@ -7,23 +7,22 @@ use mathlib.Core.Logic.{◌≢◌, ⊎_elim}
 use native.Mathlib.Omega.{arith}
 use native.Mathlib.Nat.{add-mul, lt_of_mul-lt-mul_right}
 use lib.ListN.{length, get_or}
-use Rattle.lent.specs.Part.{part}
 use Rattle.lent.specs.Write.{zeros}
 use Rattle.lent.proofs.Lists.{lt-or-ge, same_or}
-use Rattle.lent.proofs.Parts.{part_at, length_part, part_same, part_none}
+use Rattle.lent.proofs.Parts.{part_at, length_part, part_same}
 use Rattle.lent.proofs.Writes.{get_or-zeros, all-zeros}
 use Rattle.paper.specs.declared.sizes.Sizes.{Sizes}
 use Rattle.paper.specs.declared.sizes.Run.{Run}
 use Rattle.paper.specs.declared.answer.Opened.TheVariants.{Opens}
 use Rattle.paper.specs.declared.answer.Asked.TheVariants.{Is}
 use Rattle.paper.specs.declared.job.Job.{Job}
-use Rattle.paper.specs.Sizes.{sizes_of, renewed, capacity_of, start_of, home_of}
+use Rattle.paper.specs.Sizes.{renewed, capacity_of, start_of, home_of}
 use Rattle.paper.specs.Index.{run_of, open_of, Sound}
-use Rattle.paper.specs.Store.{highest, count_of, records_for, entry_after, many_of, sizes_after, counter_after, total_of}
+use Rattle.paper.specs.Store.{highest, count_of, records_for, entry_after, sizes_after, counter_after, total_of}
 use Rattle.paper.specs.Step.{is_confirmed, step_answer, rows_at}
-use Rattle.paper.specs.Gaps.{record_at, gaps_zero, gaps_of, InGap, GapsZero, Left}
+use Rattle.paper.specs.Gaps.{record_at, InGap, GapsZero}
 use Rattle.paper.proofs.Sizing.{less, times, home-is, home-end, head-long}
-use Rattle.paper.proofs.Opening.{open-sound, sound-open, open-reads, inside-all}
+use Rattle.paper.proofs.Opening.{sound-open}
 use Rattle.paper.proofs.Encoding.{stated_by}
 use Rattle.paper.proofs.Free.{rows_in, used-room, scan-lies}
 use Rattle.paper.proofs.Gaps.{gaps-true, true-gaps, gaps-false, false-gaps, gaps-is}
@@ -33,7 +32,7 @@ use Rattle.paper.proofs.Confirming.{confirm-came}
 use Rattle.demands.specs.History.{Op, Whole, begin, scan_of, takes, State, state_after, answer_after, steps_of, Cut, run, Done, Wholes, after}
 use Rattle.demands.specs.Reads.{entry_byte}
 use Rattle.demands.specs.Said.{Outside}
-use Rattle.demands.specs.Gaps.{Erased, ConfirmedErased, NoneReadable, Asks, GapsExactly, Finished, GapsStay}
+use Rattle.demands.specs.Gaps.{ConfirmedErased, NoneReadable, GapsExactly, Finished, GapsStay}
 use Rattle.demands.proofs.Start.{Starts, starts, total-is, steps-are}
 use Rattle.demands.proofs.Survived.{not_yet}
 use Rattle.demands.proofs.Telling.{step_keeps}

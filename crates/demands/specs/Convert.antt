@@ -1,12 +1,14 @@
 -- 02, 2026-03: a file in the other form shows what it showed, and "there and home again shows the same list and entries from either side, and gives the same bytes
 -- where padding and empty entries were zeros".
-use Rattle.std.specs.Prelude.{ℕ, ◌*◌, ◌≤◌, ◌≡◌, List, ℤ, pos, length, drop}
+use Rattle.std.specs.Prelude.{ℕ, ◌*◌, ◌≤◌, ◌≡◌, List, ℤ, pos, length, take, drop}
 use Rattle.paper.specs.declared.answer.Opened.TheVariants.{Opens}
 use Rattle.paper.specs.declared.answer.Taken.TheVariants.{Accepted}
 use Rattle.paper.specs.Sizes.{by_form, sizes_of, version_of}
 use Rattle.paper.specs.Index.{open_of}
 use Rattle.paper.specs.Scan.{part_of}
 use Rattle.paper.specs.Look.{list_of, listed_of, listed_out, found_of, show_of, read_of}
+use Rattle.paper.specs.Gaps.{gaps_of}
+use Rattle.paper.specs.Find.{find_of, report_of, report_out}
 use Rattle.paper.specs.Convert.{in_form, convert_of, converted_out, joined, Zeroed}
 use Rattle.demands.specs.Entries.{Bytes, with_magic}
 use Rattle.demands.specs.Survival.{StillSo}
@@ -24,6 +26,13 @@ pub record Lists (f g : List ℕ) : Type 0 where
   pub slots : list_of g ≡ list_of f
   pub answer : (out : List ℕ) → listed_of g out ≡ listed_of f out
   pub lines : (out : List ℕ) → listed_out g out ≡ listed_out f out
+
+-- of the data section the same answers: to the question of the gaps, and what is found, as the finds and as the search reports them
+pub record SameData (f g : List ℕ) : Type 0 where
+  pub gaps : gaps_of g ≡ gaps_of f
+  pub finds : find_of g (sizes_of g) ≡ find_of f (sizes_of f)
+  pub search : (out : List ℕ) → report_of g out ≡ report_of f out
+  pub reported : (out : List ℕ) → report_out g out ≡ report_out f out
 
 -- of slot s the same answers, the same bytes shown and read, and the same entry but the magic
 pub record SameBut (v : ℕ) (f g : List ℕ) (s : ℕ) : Type 0 where
@@ -47,6 +56,12 @@ pub record Home (f g : List ℕ) : Type 0 where
   pub lists : Lists f g
   pub slots : (s : ℕ) → StillSo f g s
 
+-- a conversion into either of two second buffers is accepted, and writes the same N x L bytes: it makes the same file
+pub record Agree (v : ℕ) (f out other : List ℕ) : Type 0 where
+  pub taken : convert_of v f other ≡ Accepted
+  pub written : take ((sizes_of f).n * (sizes_of f).l) (converted_out v f other) ≡ take ((sizes_of f).n * (sizes_of f).l) (converted_out v f out)
+  pub made : converted v f other ≡ converted v f out
+
 -- For every file, either form wanted, and every second buffer: `out` is lent for the way there, `back` for the way home.
 pub record Converts : Type 0 where
   pub there : (v : ℕ) → v ≤ 1 → (f out : List ℕ) → Bytes f → convert_of v f out ≡ Accepted → There v f (converted v f out)
@@ -64,3 +79,18 @@ pub record Converts : Type 0 where
   -- "the rest of that buffer untouched"
   pub beyond : (v : ℕ) (f out : List ℕ) → convert_of v f out ≡ Accepted
       → (drop ((sizes_of f).n * (sizes_of f).l) (converted_out v f out) ≡ drop ((sizes_of f).n * (sizes_of f).l) out) × (length (converted_out v f out) ≡ length out)
+
+-- and, of the same files and buffers: what the data section answers, how long the file come home is, and what is made
+pub record ConvertsMore : Type 0 where
+  pub section : (v : ℕ) → v ≤ 1 → (f out : List ℕ) → Bytes f → convert_of v f out ≡ Accepted → SameData f (converted v f out)
+  pub home_section : (v : ℕ) → v ≤ 1 → (f out back : List ℕ) → Bytes f → convert_of v f out ≡ Accepted → (sizes_of f).n * (sizes_of f).l ≤ length back
+      → SameData f (converted (version_of f) (converted v f out) back)
+  pub home_long : (v : ℕ) → v ≤ 1 → (f out back : List ℕ) → Bytes f → convert_of v f out ≡ Accepted → (sizes_of f).n * (sizes_of f).l ≤ length back
+      → length (converted (version_of f) (converted v f out) back) ≡ length f
+  -- what is made is bytes again, so all of this holds of it as of the file
+  pub bytes : (v : ℕ) (f out : List ℕ) → Bytes f → convert_of v f out ≡ Accepted → Bytes (converted v f out)
+  -- "Empty entries and all padding become zeros, also past word 8": what is made is a file of which that is so, in the old form past word 6
+  pub old_zeroed : (f out : List ℕ) → Bytes f → convert_of 0 f out ≡ Accepted → Zeroed (converted 0 f out) (sizes_of (converted 0 f out)) 12 60
+  pub current_zeroed : (f out : List ℕ) → Bytes f → convert_of 1 f out ≡ Accepted → Zeroed (converted 1 f out) (sizes_of (converted 1 f out)) 32 62
+  -- what is written does not rest on what stood in the second buffer: any other that is long enough is taken too, and gets the same bytes
+  pub any_buffer : (v : ℕ) (f out other : List ℕ) → convert_of v f out ≡ Accepted → (sizes_of f).n * (sizes_of f).l ≤ length other → Agree v f out other

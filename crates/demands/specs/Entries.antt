@@ -89,6 +89,15 @@ pub record EntryIs (f : List ℕ) (z : Sizes) (s : ℕ) (e : Entry) : Type 0 whe
 abbrev pub EntryFields : Type 0
 EntryFields = (f : List ℕ) (s : ℕ) → Bytes f → (found_of f s).answer ≡ Accepted → EntryIs f (sizes_of f) s (found_of f s).entry
 
+-- of an old file "first record, last record .. as 16-bit numbers": those numbers themselves, and none of them is a negative one
+pub record OldRunIs (f : List ℕ) (z : Sizes) (s : ℕ) (e : Entry) : Type 0 where
+  pub old_first : z.version ≡ 0 → e.first ≡ be16 f (entry_byte z s)
+  pub old_last : z.version ≡ 0 → e.last ≡ be16 f (entry_byte z s + 2)
+  pub old_small : z.version ≡ 0 → (e.first < 32768) × (e.last < 32768)
+
+abbrev pub OldRuns : Type 0
+OldRuns = (f : List ℕ) (s : ℕ) → (found_of f s).answer ≡ Accepted → OldRunIs f (sizes_of f) s (found_of f s).entry
+
 -- what the call gives of a slot that was saved: the entry's bytes 8 to 61 as given, and the records of the job
 pub record SavedEntry (f scan : List ℕ) (j : Job) : Type 0 where
   pub taken : (found_of f j.slot).answer ≡ Accepted

@@ -78,7 +78,7 @@ current_file =
     (0 ∷ 0 ∷ 0 ∷ 2 ∷ 0 ∷ 0 ∷ 0 ∷ 1 ∷ 0 ∷ 0 ∷ 2 ∷ 0 ∷ 0 ∷ 0 ∷ 0 ∷ 64 ∷ 0 ∷ 0 ∷ 0 ∷ 1 ∷ 0 ∷ 0 ∷ 0 ∷ 7 ∷ 0 ∷ 0 ∷ 0 ∷ 0 ∷ 0 ∷ 0 ∷ 0 ∷ 1 ∷ replicate 480 0)
     ++ ((0 ∷ 0 ∷ 0 ∷ 3 ∷ 0 ∷ 0 ∷ 0 ∷ 3 ∷ (replicate 52 0 ++ (0 ∷ 9 ∷ replicate 450 0))) ++ (least_scan ++ replicate 256 0))
 
--- Each is converted to the other, by computation, whatever stood in the second buffer.
+-- Each is converted to the other, by computation, into a second buffer of sevens.
 pub record BothWays : Type 0 where
   pub to_current : convert_of 1 old_file (replicate 1024 7) ≡ Accepted
   pub is_current : converted 1 old_file (replicate 1024 7) ≡ current_file

@@ -1,4 +1,6 @@
 //! What a file says of its scans: an entry's run, the row of runs, and the rules over them tried slot by slot.
+#![tactic(auto)]
+
 pub mod entry;
 pub mod plain;
 pub mod row;

@@ -7,14 +7,13 @@ use native.Mathlib.Omega.{arith}
 use borrow.Author.Tests.{lt-ltb, le-ltb}
 use lib.Dec.{ltb}
 use lib.ListN.{length}
-use Rattle.lent.specs.Checks.{Check, check, clear, fires, fired}
+use Rattle.lent.specs.Checks.{check, clear, fires, fired}
 use Rattle.lent.specs.Write.{write}
 use Rattle.lent.proofs.Checks.{clear-append, fires-append, cons-clear, fires-here, judge-clear, judge-fires}
 use Rattle.paper.specs.declared.sizes.Sizes.{Sizes}
 use Rattle.paper.specs.declared.refusal.Refusal.{Refusal}
 use Rattle.paper.specs.declared.refusal.Refusal.TheVariants.{TooSmall}
 use Rattle.paper.specs.declared.answer.Opened.TheVariants as opened
-use Rattle.paper.specs.declared.answer.Listed.{Listed}
 use Rattle.paper.specs.declared.answer.Listed.TheVariants.{Scans, Refused}
 use Rattle.paper.specs.Sizes.{sizes_of, boot_checks}
 use Rattle.paper.specs.Index.{boot_of, Booted}

@@ -23,7 +23,7 @@ use Rattle.paper.specs.Index.{Booted}
 use Rattle.paper.specs.Entry.{natural_of}
 use Rattle.paper.specs.Scan.{classes_of, rule2, ruled_of, Rule2}
 use Rattle.paper.specs.Store.{records_for}
-use Rattle.paper.specs.Find.{Find, rest_from, takes, takes_at, find_at, find_from, find_of, find_lines}
+use Rattle.paper.specs.Find.{Find, rest_from, takes, takes_at, find_from, find_of, find_lines}
 use Rattle.paper.proofs.Sizing.{less, times, bytes_small}
 use Rattle.paper.proofs.Rules.{facts-rule2}
 use Rattle.paper.proofs.Finding.{find-from, from_past, from-broken, from_found, classes-none, takes-within}

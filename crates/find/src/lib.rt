@@ -1,4 +1,6 @@
 //! The scans that the data records show by themselves, for a file whose index is lost.
+#![tactic(auto)]
+
 ghost use Rattle.std.specs.Prelude.{◌≡◌};
 ghost use Rattle.paper.specs.declared.answer.Opened.TheVariants.{Opens};
 ghost use Rattle.paper.specs.Refusals.{listed_says};

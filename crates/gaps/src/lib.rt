@@ -1,4 +1,6 @@
 //! Whether every data record in no listed scan is all zeros. Row and marks, which the judgement and then the walk need, are made as long as the file asks for.
+#![tactic(auto)]
+
 ghost use Rattle.std.specs.Prelude.{◌≡◌, ◌*◌, ◌+◌, ◌≤◌, ◌<◌, length};
 ghost use Rattle.marks.specs.Marks.{Clear};
 ghost use Rattle.paper.specs.declared.answer.Opened.TheVariants.{Opens};

@@ -1,4 +1,6 @@
 //! A file judged: its bootstrap, then its index by one pass over the entries, which leaves their runs in a row.
+#![tactic(auto)]
+
 ghost use Rattle.std.specs.Prelude.{◌≡◌, ◌≤◌};
 ghost use Rattle.paper.specs.Refusals.{opened_says};
 ghost use Rattle.paper.specs.Index.{index_of, open_of, run_of, Booted};

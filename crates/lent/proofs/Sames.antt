@@ -1,14 +1,13 @@
 -- The laws of the test whether two runs are the same.
-use Rattle.std.proofs.Common.{◌≡◌, ℕ, suc, ◌+◌, ◌-◌, ◌<◌, ◌≤◌, Bool, true, false, eqb, List, [], ◌∷◌, ◌++◌, length, get_or, take, drop, sym, refl, ap, ◌∙◌, suc-ne-zero, add-one, arith, length-drop, take-append-drop, drop_of_length-le, length-take-le, take_all, drop-cons, eq-eqb, ne_eqb, eqb-true}
+use Rattle.std.proofs.Common.{◌≡◌, ℕ, ◌+◌, ◌-◌, ◌<◌, ◌≤◌, Bool, true, false, eqb, List, [], ◌∷◌, ◌++◌, length, get_or, take, drop, sym, refl, ap, ◌∙◌, suc-ne-zero, add-one, arith, length-drop, take-append-drop, drop_of_length-le, length-take-le, take_all, drop-cons, eq-eqb, ne_eqb, eqb-true}
 use native.Mathlib.Nat.{suc_inj}
 use lib.Bits.{bit_or, or_zero_l, or_add_and, and_le_r}
-use lib.Seq.{take-length}
 use borrow.Author.Tests.{eqb-false}
 use Rattle.lent.specs.Lists.{also}
 use Rattle.lent.specs.Part.{part}
 use Rattle.lent.specs.Same.{same}
 use Rattle.lent.specs.Write.{zeros, pad}
-use Rattle.lent.proofs.Lists.{also-true, also-assoc, also-same, not_so}
+use Rattle.lent.proofs.Lists.{also-true, also-assoc, not_so}
 use Rattle.lent.proofs.Writes.{length-zeros, get_or-zeros, length-pad}
 
 pub same_refl : (a : List ℕ) → same a a ≡ true

@@ -1,5 +1,5 @@
 -- A part of what is lent: the bytes from a place up to another, as many of them as there are.
-use Rattle.std.specs.Prelude.{◌≡◌, ℕ, ◌+◌, ◌-◌, ◌<◌, ◌≤◌, cond, List, [], ◌∷◌, length, nat_lt, slice_index, slice_range}
+use Rattle.std.specs.Prelude.{◌≡◌, ℕ, ◌+◌, ◌<◌, ◌≤◌, cond, List, [], ◌∷◌, length, nat_lt, slice_index, slice_range}
 use Rattle.lent.specs.Lists.{all}
 
 abbrev pub part : ℕ → ℕ → List ℕ → List ℕ

@@ -175,7 +175,7 @@ same-form v a b =
 same-shift : (v x : ℕ) (bs : List ℕ) → shifted (by_form v 0 1) x bs ≡ shifted v x bs
 unfolding shifted more_of
 same-shift v x [] = refl
-same-shift v x (b ∷ bs) = rw (same-form v (widened ((x * 256 + b) % 65536)) ((x * 256 + b) % 4294967296)) (same-shift v _ bs)
+same-shift v x (b ∷ bs) = rw (same-form v (widened ((x * 256 + b) % 65536)) ((x * 256 + b) % 4294967296)) (same-shift v (more_of v x b) bs)
 
 same-element : (z : Sizes) (at : ℕ) (bytes row : List ℕ) (e : ℕ) → element_after (shape_of z) at bytes row e ≡ element_after z at bytes row e
 unfolding element_after

@@ -1,4 +1,6 @@
 //! The verdict over the slow link: the length first, then bytes in pieces cut anywhere, then finish. What is kept of them is a link and a row that the caller lends.
+#![tactic(auto)]
+
 ghost use Rattle.std.specs.Prelude.{◌≡◌, true, ◌+◌, ◌≤◌, ◌<◌, length};
 ghost use Rattle.paper.specs.Sizes.{sizes_of};
 ghost use Rattle.paper.specs.Refusals.{taken_says, opened_says};

@@ -1,9 +1,11 @@
+#![tactic(auto)]
 // Prints the list of the file on standard input.
-use libc::{STDERR_FILENO, STDIN_FILENO};
+use std::io;
 
-fn main() {
+fn main(rt: HostRuntime) -> io::Result<()> {
     // What stands on standard output is a verdict, and there is none.
-    if !listing::shell::print(STDIN_FILENO) {
-        io::write_all(STDERR_FILENO, b"cannot read\n");
+    if !listing::shell::print(&mut rt.stdin(), &mut io::writer(&rt))? {
+        eprintln!(rt; "cannot read")?;
     }
+    Ok(())
 }

@@ -1,24 +1,23 @@
+#![tactic(auto)]
 // Prints the list of each file that the arguments name, under the file's name.
-use libc::STDOUT_FILENO;
+use std::fs::File;
+use std::rt::Files;
+use std::{env, io};
 
-fn one(k: usize) {
-    let mut path = io::buffer();
-    let n = os::arg(k, &mut path);
-    io::write_all(STDOUT_FILENO, &path[..n]);
-    io::write_all(STDOUT_FILENO, b":\n");
-    let fd = os::open_read(&path[..n]);
-    if fd < 0 {
-        io::write_all(STDOUT_FILENO, b"no such file\n");
-        return;
+fn one(rt: &(impl Files + Print), path: &str) -> io::Result<()> {
+    println!(rt; "{path}:")?;
+    let Ok(mut file) = File::open(rt, path) else {
+        return println!(rt; "no such file");
+    };
+    if !listing::shell::print(&mut file, &mut io::writer(rt))? {
+        println!(rt; "cannot read")?;
     }
-    if !listing::shell::print(fd) {
-        io::write_all(STDOUT_FILENO, b"cannot read\n");
-    }
-    libc::close(fd);
+    Ok(())
 }
 
-fn main() {
-    for k in 1..os::arg_count() {
-        one(k);
+fn main(rt: HostRuntime) -> io::Result<()> {
+    for path in env::args(&rt)?.skip(1) {
+        one(&rt, path.as_str())?;
     }
+    Ok(())
 }

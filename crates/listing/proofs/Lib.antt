@@ -3,3 +3,4 @@ pub mod Putting
 pub mod Texts
 pub mod Printing
 pub mod Reading
+pub mod Writing

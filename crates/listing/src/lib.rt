@@ -1,4 +1,6 @@
 //! The lister's text.
+#![tactic(auto)]
+
 ghost use Rattle.std.specs.Prelude.{◌≡◌, ◌+◌, ◌≤◌, length};
 ghost use Rattle.lent.specs.Write.{write};
 ghost use Rattle.paper.specs.Lister.{list_text, printed};

@@ -7,9 +7,8 @@ use native.Mathlib.Decide.{le_ind}
 use native.Mathlib.Numerals.{add-one}
 use native.Mathlib.Nat.{add-zero}
 use native.Mathlib.Omega.{arith}
-use lib.ListN.{length, take, drop, length-append}
+use lib.ListN.{length, length-append}
 use Rattle.lent.specs.Lists.{those}
-use Rattle.lent.specs.Write.{write}
 use Rattle.lent.proofs.Writes.{write_then, write-nothing, length-write}
 use Rattle.paper.specs.declared.sizes.Run.{Run}
 use Rattle.paper.specs.Index.{empty}

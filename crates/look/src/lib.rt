@@ -1,4 +1,6 @@
 //! The calls that look at a file and change nothing: list, entry, show and read.
+#![tactic(auto)]
+
 ghost use Rattle.std.specs.Prelude.{◌≡◌};
 ghost use Rattle.lent.specs.Part.{bytes_on};
 ghost use Rattle.paper.specs.Refusals.{listed_says, span_says, taken_says, kind_says};

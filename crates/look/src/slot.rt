@@ -7,7 +7,7 @@ use paper::refusal::Refusal;
 use paper::sizes::{Run, Sizes};
 
 // The sizes of the file and the run of the slot; or one of open's refusals, 9 or 10.
-#[derive(Drop)]
+#[derive(Clone, Copy)]
 pub enum Held {
     Scan(Sizes, Run),
     Refused(Refusal),

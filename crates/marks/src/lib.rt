@@ -1,4 +1,6 @@
 //! A bit for each record, 64 to a word: a run of records is taken where none of them is taken yet.
+#![tactic(auto)]
+
 ghost use Rattle.std.specs.Prelude.{◌≡◌, true, ◌+◌, ◌*◌, ◌/◌, ◌≤◌, ◌<◌, length};
 ghost use Rattle.marks.specs.Marks.{Took, Clear, ones};
 

@@ -1,11 +1,11 @@
 -- Number and values determine the answer: of every answer's definition in the paper's numbers there is a way back.
-use Prim.Native.Nat.{ℕ}
+use Prim.Native.Nat.{ℕ, ◌≤◌, ◌<◌}
 use mathlib.Core.Path.{◌≡◌, refl, sym, ◌∙◌, ap}
 use mathlib.Core.Bool.{true, false, cond}
 use mathlib.Core.List.{List, [], ◌∷◌}
 use native.Mathlib.Omega.{arith}
 use lib.Dec.{eqb}
-use lib.ListN.{get_or}
+use lib.ListN.{get_or, get_or-eq_default}
 use borrow.Author.Tests.{ne_eqb}
 use Rattle.paper.specs.declared.refusal.Refusal.{Refusal}
 use Rattle.paper.specs.declared.refusal.Refusal.TheVariants.{TooShort, OldForm, UnknownForm, OutOfRange, PastEnd, BadEntry, AboveUse, SharedRecord, NoSuchSlot, EmptySlot, BadScan, NoEmptySlot, NoRoom, Disagrees, Differs, BadBlank, TooSmall, NotVersionOne, NotConvertible, NotAllCame}
@@ -21,7 +21,7 @@ use Rattle.paper.specs.declared.answer.Asked.{Asked}
 use Rattle.paper.specs.declared.answer.Asked.TheVariants as asked
 use Rattle.paper.specs.declared.job.Step.{Step}
 use Rattle.paper.specs.declared.job.Step.TheVariants as step
-use Rattle.paper.specs.Refusals.{number_of, value_of, Says, refuses, opened_says, listed_says, span_says, taken_says, asked_says, step_says}
+use Rattle.paper.specs.Refusals.{number_of, highest_refusal, value_of, Says, refuses, opened_says, listed_says, span_says, taken_says, asked_says, step_says}
 
 -- what can be undone tells its arguments apart
 only : {A B : Type 0} (says : A → B) (back : B → A) → ((a : A) → back (says a) ≡ a) → (a b : A) → says a ≡ says b → a ≡ b
@@ -29,11 +29,10 @@ only says back undo a b e = sym (undo a) ∙ ap back e ∙ undo b
 
 -- ---- refusals
 
--- the refusal with number n and value v
-abbrev refusal_at : ℕ → ℕ → Refusal
-refusal_at n v =
-    get_or
-    (TooShort
+-- the refusals by number, with value v; at 0 is none
+abbrev refusals : ℕ → List Refusal
+refusals v =
+    TooShort
     ∷ TooShort
     ∷ OldForm
     ∷ UnknownForm
@@ -54,7 +53,11 @@ refusal_at n v =
     ∷ NotVersionOne
     ∷ NotConvertible
     ∷ NotAllCame
-    ∷ []) n TooShort
+    ∷ []
+
+-- the refusal with number n and value v
+abbrev refusal_at : ℕ → ℕ → Refusal
+refusal_at n v = get_or (refusals v) n TooShort
 
 undo : (r : Refusal) → refusal_at (number_of r) (value_of r) ≡ r
 undo TooShort = refl
@@ -85,16 +88,30 @@ number-some r e =
     let k : number_of r ≡ 1 = ap (λ (q : Refusal). number_of q) t in
     omega arith
 
+-- no refusal has a number above the highest: at such a place of the list is its default
+number_past : (r : Refusal) → highest_refusal < number_of r → ⊥
+number_past r h =
+    let t : r ≡ TooShort = sym (undo r) ∙ get_or-eq_default (refusals (value_of r)) TooShort {n = number_of r} (omega arith) in
+    let k : number_of r ≡ 1 = ap (λ (q : Refusal). number_of q) t in
+    omega arith
+
+pub numbered : (r : Refusal) → (1 ≤ number_of r) × (number_of r ≤ highest_refusal)
+numbered r = (omega (arith, number-some r), omega (arith, number_past r))
+
+-- and the highest is some refusal's
+pub highest-taken : number_of (refusal_at highest_refusal 0) ≡ highest_refusal
+highest-taken = refl
+
 pub refusal-only : (q r : Refusal) → refuses q ≡ refuses r → q ≡ r
 refusal-only = only refuses (λ s. refusal_at s.number (get_or s.values 0 0)) undo
 
 -- ---- answers: number 0 and the values, or a refusal
 
 module _ {A : Type 0} (accept : List ℕ → A) (refuse : Refusal → A) where
-  abbrev answerAt : Says → A
-  answerAt s = cond (eqb s.number 0) (accept s.values) (refuse (refusal_at s.number (get_or s.values 0 0)))
+  abbrev answer_at : Says → A
+  answer_at s = cond (eqb s.number 0) (accept s.values) (refuse (refusal_at s.number (get_or s.values 0 0)))
 
-  undo-refused : (r : Refusal) → answerAt (refuses r) ≡ refuse r
+  undo-refused : (r : Refusal) → answer_at (refuses r) ≡ refuse r
   undo-refused r = let n = ne_eqb (number_of r) 0 (number-some r) in rw n (ap refuse (undo r))
 
 abbrev opens : List ℕ → Opened
@@ -102,53 +119,53 @@ opens vs =
     opened.Opens
     (record { n = get_or vs 0 0; d = get_or vs 1 0; l = get_or vs 2 0; m = get_or vs 3 0; u = get_or vs 4 0; counter = get_or vs 5 0; kind = get_or vs 6 0; version = get_or vs 7 0 })
 
-undo-opened : (a : Opened) → answerAt opens opened.Refused (opened_says a) ≡ a
+undo-opened : (a : Opened) → answer_at opens opened.Refused (opened_says a) ≡ a
 undo-opened (opened.Opens z) = refl
 undo-opened (opened.Refused r) = undo-refused opens opened.Refused r
 
 pub opened-only : (a b : Opened) → opened_says a ≡ opened_says b → a ≡ b
-opened-only = only opened_says (answerAt opens opened.Refused) undo-opened
+opened-only = only opened_says (answer_at opens opened.Refused) undo-opened
 
 abbrev scans : List ℕ → Listed
 scans vs = listed.Scans (get_or vs 0 0)
 
-undo-listed : (a : Listed) → answerAt scans listed.Refused (listed_says a) ≡ a
+undo-listed : (a : Listed) → answer_at scans listed.Refused (listed_says a) ≡ a
 undo-listed (listed.Scans n) = refl
 undo-listed (listed.Refused r) = undo-refused scans listed.Refused r
 
 pub listed-only : (a b : Listed) → listed_says a ≡ listed_says b → a ≡ b
-listed-only = only listed_says (answerAt scans listed.Refused) undo-listed
+listed-only = only listed_says (answer_at scans listed.Refused) undo-listed
 
 abbrev part : List ℕ → Span
 part vs = span.Part (get_or vs 0 0) (get_or vs 1 0)
 
-undo-span : (a : Span) → answerAt part span.Refused (span_says a) ≡ a
+undo-span : (a : Span) → answer_at part span.Refused (span_says a) ≡ a
 undo-span (span.Part from to) = refl
 undo-span (span.Refused r) = undo-refused part span.Refused r
 
 pub span-only : (a b : Span) → span_says a ≡ span_says b → a ≡ b
-span-only = only span_says (answerAt part span.Refused) undo-span
+span-only = only span_says (answer_at part span.Refused) undo-span
 
 abbrev accepted : List ℕ → Taken
 accepted vs = taken.Accepted
 
-undo-taken : (a : Taken) → answerAt accepted taken.Refused (taken_says a) ≡ a
+undo-taken : (a : Taken) → answer_at accepted taken.Refused (taken_says a) ≡ a
 undo-taken taken.Accepted = refl
 undo-taken (taken.Refused r) = undo-refused accepted taken.Refused r
 
 pub taken-only : (a b : Taken) → taken_says a ≡ taken_says b → a ≡ b
-taken-only = only taken_says (answerAt accepted taken.Refused) undo-taken
+taken-only = only taken_says (answer_at accepted taken.Refused) undo-taken
 
 abbrev is : List ℕ → Asked
 is vs = asked.Is (eqb (get_or vs 0 0) 1)
 
-undo-asked : (a : Asked) → answerAt is asked.Refused (asked_says a) ≡ a
+undo-asked : (a : Asked) → answer_at is asked.Refused (asked_says a) ≡ a
 undo-asked (asked.Is true) = refl
 undo-asked (asked.Is false) = refl
 undo-asked (asked.Refused r) = undo-refused is asked.Refused r
 
 pub asked-only : (a b : Asked) → asked_says a ≡ asked_says b → a ≡ b
-asked-only = only asked_says (answerAt is asked.Refused) undo-asked
+asked-only = only asked_says (answer_at is asked.Refused) undo-asked
 
 -- by what was done, then record and count
 abbrev done : List ℕ → Step
@@ -157,11 +174,11 @@ done vs =
     let count = get_or vs 2 0 in
     get_or (step.Wrote r count ∷ step.Saved r count ∷ step.Cleared r count ∷ []) (get_or vs 0 0) (step.Wrote r count)
 
-undo-step : (a : Step) → answerAt done step.Refused (step_says a) ≡ a
+undo-step : (a : Step) → answer_at done step.Refused (step_says a) ≡ a
 undo-step (step.Wrote r count) = refl
 undo-step (step.Saved r count) = refl
 undo-step (step.Cleared r count) = refl
 undo-step (step.Refused r) = undo-refused done step.Refused r
 
 pub step-only : (a b : Step) → step_says a ≡ step_says b → a ≡ b
-step-only = only step_says (answerAt done step.Refused) undo-step
+step-only = only step_says (answer_at done step.Refused) undo-step

@@ -273,21 +273,21 @@ pub record SaveTaken (f : List ℕ) (slot : ℕ) (scan : List ℕ) : Type 0 wher
   pub placed : Placed f scan
 
 module _ (f : List ℕ) (slot : ℕ) (scan about : List ℕ) where
-  abbrev saveChecks : List (Check Refusal)
-  saveChecks = no_slot (sizes_of f) slot ∷ scan_checks f scan
+  abbrev save_checks : List (Check Refusal)
+  save_checks = no_slot (sizes_of f) slot ∷ scan_checks f scan
 
   pub save-taken : (save_of f slot scan about).answer ≡ Accepted → SaveTaken f slot scan
   unfolding save_of
   save-taken e =
-      let p = may-change f saveChecks (taken-clear (change_checks f ++ saveChecks) (save_job f slot scan about) e) in
+      let p = may-change f save_checks (taken-clear (change_checks f ++ save_checks) (save_job f slot scan about) e) in
       let c = clear-cons _ _ (scan_checks f scan) p.1 in
       record { may = p.0; slotted = slot-facts (sizes_of f) slot c.0; placed = clear-placed f scan c.1 }
 
   pub taken-save : SaveTaken f slot scan → save_of f slot scan about ≡ accepted (save_job f slot scan about)
   unfolding save_of
   taken-save h =
-      clear-taken (change_checks f ++ saveChecks) (save_job f slot scan about)
-      (change-may f saveChecks h.may ∙ cons-clear _ _ (scan_checks f scan) (facts-slot (sizes_of f) slot h.slotted) (placed-clear f scan h.placed))
+      clear-taken (change_checks f ++ save_checks) (save_job f slot scan about)
+      (change-may f save_checks h.may ∙ cons-clear _ _ (scan_checks f scan) (facts-slot (sizes_of f) slot h.slotted) (placed-clear f scan h.placed))
 
 pub record KeepTaken (f scan : List ℕ) : Type 0 where
   pub may : Changeable f (sizes_of f)
@@ -295,21 +295,21 @@ pub record KeepTaken (f scan : List ℕ) : Type 0 where
   pub placed : Placed f scan
 
 module _ (f scan about : List ℕ) where
-  abbrev keepChecks : List (Check Refusal)
-  keepChecks = check (eqb (keep_slot f) 0) NoEmptySlot ∷ scan_checks f scan
+  abbrev keep_checks : List (Check Refusal)
+  keep_checks = check (eqb (keep_slot f) 0) NoEmptySlot ∷ scan_checks f scan
 
   pub keep_taken : (keep_of f scan about).answer ≡ Accepted → KeepTaken f scan
   unfolding keep_of
   keep_taken e =
-      let p = may-change f keepChecks (taken-clear (change_checks f ++ keepChecks) (save_job f (keep_slot f) scan about) e) in
+      let p = may-change f keep_checks (taken-clear (change_checks f ++ keep_checks) (save_job f (keep_slot f) scan about) e) in
       let c = clear-cons _ _ (scan_checks f scan) p.1 in
       record { may = p.0; slotted = eqb-false _ _ c.0; placed = clear-placed f scan c.1 }
 
   pub taken-keep : KeepTaken f scan → keep_of f scan about ≡ accepted (save_job f (keep_slot f) scan about)
   unfolding keep_of
   taken-keep h =
-      clear-taken (change_checks f ++ keepChecks) (save_job f (keep_slot f) scan about)
-      (change-may f keepChecks h.may ∙ cons-clear _ _ (scan_checks f scan) (ne_eqb (keep_slot f) 0 h.slotted) (placed-clear f scan h.placed))
+      clear-taken (change_checks f ++ keep_checks) (save_job f (keep_slot f) scan about)
+      (change-may f keep_checks h.may ∙ cons-clear _ _ (scan_checks f scan) (ne_eqb (keep_slot f) 0 h.slotted) (placed-clear f scan h.placed))
 
 -- "keep a scan in the lowest empty slot": one of the index's
 pub keep-slotted : (f : List ℕ) → keep_slot f ≢ 0 → InIndex (sizes_of f) (keep_slot f)

@@ -1,6 +1,6 @@
 -- The two forms: what rests on which bytes in either, and what the current form's numbers are.
 use Prim.Native.Nat.{ℕ, ◌+◌, ◌*◌, ◌≤◌}
-use mathlib.Core.Path.{◌≡◌, refl, sym, ◌∙◌, ap}
+use mathlib.Core.Path.{◌≡◌, sym, ◌∙◌, ap}
 use mathlib.Core.Bool.{true}
 use mathlib.Core.List.{List}
 use mathlib.Core.Logic.{◌≢◌, ⊎_elim}
@@ -9,7 +9,7 @@ use native.Mathlib.Nat.{add-zero}
 use borrow.Author.Tests.{eqb-true, eq-eqb, ne_eqb}
 use Rattle.lent.specs.Number.{big, be16, be32, widened}
 use Rattle.lent.specs.Part.{Alike}
-use Rattle.lent.proofs.Lists.{same_or, true≢false}
+use Rattle.lent.proofs.Lists.{same_or}
 use Rattle.lent.proofs.Numbers.{number_same}
 use Rattle.paper.specs.declared.sizes.Sizes.{Sizes}
 use Rattle.paper.specs.Sizes.{by_form, sizes_of, version_of, word_at, counter_of, type_of, home_of}

@@ -1,11 +1,11 @@
 -- The question of the gaps, in plain facts, both ways.
-use Prim.Native.Nat.{ℕ, ◌+◌, ◌-◌, ◌≤◌, ◌<◌}
+use Prim.Native.Nat.{ℕ, ◌+◌, ◌≤◌}
 use mathlib.Core.Path.{◌≡◌, refl, ◌∙◌, ap}
 use mathlib.Core.Bool.{true, false, not}
 use mathlib.Core.List.{List}
 use mathlib.Core.Logic.{⊎_elim}
 use native.Mathlib.Omega.{arith}
-use borrow.Author.Tests.{ltb-true, eqb-true, eqb-false, lt-ltb, eq-eqb, ne_eqb, not-true}
+use borrow.Author.Tests.{ltb-true, eqb-true, eqb-false, lt-ltb, eq-eqb, not-true}
 use Rattle.lent.specs.Least.{least, Lowest, None}
 use Rattle.lent.specs.Same.{same}
 use Rattle.lent.specs.Write.{zeros}
@@ -20,7 +20,7 @@ use Rattle.paper.specs.declared.answer.Asked.TheVariants.{Is, Refused}
 use Rattle.paper.specs.Sizes.{sizes_of}
 use Rattle.paper.specs.Index.{run_of, open_checks, open_of}
 use Rattle.paper.specs.Store.{run_from}
-use Rattle.paper.specs.Gaps.{record_at, left_tests, left_at, gaps_zero, gaps_of, InGap, Left, SomeLeft, GapsZero}
+use Rattle.paper.specs.Gaps.{record_at, left_tests, left_at, gaps_zero, gaps_of, Left, SomeLeft, GapsZero}
 use Rattle.paper.proofs.Opening.{sharer-none, none-sharer, common-shares, open-clear, open-fires, open-reads}
 
 module _ (f : List ℕ) (z : Sizes) where

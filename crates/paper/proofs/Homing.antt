@@ -10,7 +10,7 @@ use native.Mathlib.Nat.{add-zero, add_assoc, zero-add, sub-zero, zero-mul, suc-m
 use borrow.Author.Tests.{lt-ltb, le-ltb}
 use lib.ListN.{length, take, drop, get_or}
 use lib.Seq.{take_at, drop_at}
-use Rattle.lent.specs.Number.{number, numbers, words, be16, be32, widened}
+use Rattle.lent.specs.Number.{numbers, be16, be32, widened}
 use Rattle.lent.specs.Part.{part}
 use Rattle.lent.specs.Write.{write, pad, zeros}
 use Rattle.lent.proofs.Lists.{lt-or-ge}

@@ -360,8 +360,8 @@ module _ {f : List ℕ} {z : Sizes} where
 
 module _ (f : List ℕ) where
   -- what both ask after 1 and 2
-  abbrev restChecks : List (Check Refusal)
-  restChecks = word_checks f ++ index_checks (sizes_of f) (run_of f (sizes_of f))
+  abbrev rest_checks : List (Check Refusal)
+  rest_checks = word_checks f ++ index_checks (sizes_of f) (run_of f (sizes_of f))
 
   -- an old file is refused with 2, once it is long enough to tell
   pub change-old : (ds : List (Check Refusal)) → 512 ≤ length f → version_of f ≡ 0 → fired (change_checks f ++ ds) ≡ fires OldForm
@@ -373,7 +373,7 @@ module _ (f : List ℕ) where
       ⊎_elim (λ (a : length f < 512). rw (lt-ltb _ _ a)) (λ (a : 512 ≤ length f). rw (le-ltb _ _ a, ne_eqb (version_of f) 0 (h a))) (lt-or-ge (length f) 512)
 
   pub change-look : (ds : List (Check Refusal)) → (512 ≤ length f → version_of f ≡ 0 → ⊥) → fired (change_checks f ++ ds) ≡ fired (open_checks f ++ ds)
-  change-look ds h = change-other (restChecks ++ ds) h
+  change-look ds h = change-other (rest_checks ++ ds) h
 
   -- so that it is judged as for a look, and its bootstrap too
   pub old-boot : 512 ≤ length f → version_of f ≡ 0 → change_boot_of f ≡ Refused OldForm
@@ -390,7 +390,7 @@ module _ (f : List ℕ) where
 
   pub other-file : (512 ≤ length f → version_of f ≡ 0 → ⊥) → change_of f ≡ open_of f
   unfolding change_of open_of
-  other-file h = ap (answer Refused (Opens (sizes_of f))) (change-other restChecks h)
+  other-file h = ap (answer Refused (Opens (sizes_of f))) (change-other rest_checks h)
 
   -- what the judgement came to
   pub change-reads : {z : Sizes} → change_of f ≡ Opens z → sizes_of f ≡ z
@@ -440,11 +440,11 @@ module _ (f : List ℕ) where
   unfolding change_of
   change-sound {z} e =
       let p = opens-clear (change_checks f) (sizes_of f) z e in
-      subst (λ (y : Sizes). Sound f y) p.1 (open-sound (clear-open f (change-clear restChecks p.0).0))
+      subst (λ (y : Sizes). Sound f y) p.1 (open-sound (clear-open f (change-clear rest_checks p.0).0))
 
   pub may-change : (ds : List (Check Refusal)) → fired (change_checks f ++ ds) ≡ clear → Changeable f (sizes_of f) × (fired ds ≡ clear)
   may-change ds e =
-      let p = change-clear (restChecks ++ ds) e in
+      let p = change-clear (rest_checks ++ ds) e in
       let q = then-clear f ds p.0 in
       let s = open-sound q.0 in
       (record { sound = s; current = omega (arith, s.booted.version, p.1) }, q.1)

@@ -13,7 +13,7 @@ use lib.Seq.{get_or-append-add, get_or-drop}
 use Rattle.lent.specs.Number.{big, number, numbers, words, be16, be32, widened}
 use Rattle.lent.specs.Part.{Alike}
 use Rattle.lent.specs.Write.{zeros}
-use Rattle.lent.proofs.Lists.{same_or, either}
+use Rattle.lent.proofs.Lists.{same_or}
 use Rattle.lent.proofs.Numbers.{number-cong, number_past, number-zeros, number-after, two-small, four-small, length-numbers, numbers-at}
 use Rattle.lent.proofs.Parts.{part_at, length_part}
 use Rattle.lent.proofs.Writes.{pad-at}

@@ -49,14 +49,14 @@ module _ {z : Sizes} {f scan : List ℕ} {j : Job} (Y : Ready z f scan j) (A : A
   J i = job_at z f scan j i
 
   -- the sizes as they stand after i steps
-  abbrev pub sizesAt : ℕ → Sizes
-  sizesAt i = renewed z (along Y i).d (along Y i).u (along Y i).c
+  abbrev pub sizes_at : ℕ → Sizes
+  sizes_at i = renewed z (along Y i).d (along Y i).u (along Y i).c
 
   -- job and file agree at every step
   at-agrees : (i : ℕ) → agrees (F i) scan (J i) ≡ true
   at-agrees i =
       let a = along Y i in
-      agreeing (F i) scan (J i) (sizesAt i)
+      agreeing (F i) scan (J i) (sizes_at i)
       (record {
         booted = a.sound.booted;
         current = A.current;
@@ -74,9 +74,9 @@ module _ {z : Sizes} {f scan : List ℕ} {j : Job} (Y : Ready z f scan j) (A : A
       })
 
   -- the write of each step is the list's next
-  next-write : (i : ℕ) → write_at (F i) (sizesAt i) scan (J i) ≡ get_or (writes_of (F i) (sizesAt i) j scan) i no_write
+  next-write : (i : ℕ) → write_at (F i) (sizes_at i) scan (J i) ≡ get_or (writes_of (F i) (sizes_at i) j scan) i no_write
   next-write i =
-      let y : Sizes = sizesAt i in
+      let y : Sizes = sizes_at i in
       ap (λ (ws : List Write). get_or ws (min i T) no_write) (writes-placed (F i) y j (min i T) (take 32 (F i)) scan)
       ∙ ⊎_elim (λ (h : i < T). ap (λ (n : ℕ). get_or (writes_of (F i) y j scan) n no_write) (omega arith))
       (λ (h : T ≤ i). writes-past (F i) y j scan (min i T) (omega arith) ∙ sym (writes-past (F i) y j scan i h)) (lt-or-ge i T)
@@ -86,17 +86,17 @@ module _ {z : Sizes} {f scan : List ℕ} {j : Job} (Y : Ready z f scan j) (A : A
   pub stage-file : (i : ℕ) → step_file (file_at f scan j i) scan (job_at z f scan j i) ≡ file_at f scan j (suc i)
   stage-file i =
       let r = (along Y i).sound.booted.reads in
-      step-file (F i) scan (J i) (sizesAt i) (at-agrees i) r ∙ ap (perform (F i)) (next-write i) ∙ sym (file-next f scan j i (sizesAt i) _ r refl)
+      step-file (F i) scan (J i) (sizes_at i) (at-agrees i) r ∙ ap (perform (F i)) (next-write i) ∙ sym (file-next f scan j i (sizes_at i) _ r refl)
 
   pub stage-job : (i : ℕ) → step_job (file_at f scan j i) scan (job_at z f scan j i) ≡ job_at z f scan j (suc i)
   stage-job i =
       let r = (along Y i).sound.booted.reads in
       ⊎_elim
       (λ (h : i < T).
-      job-head (F i) scan (J i) (sizesAt i) (at-agrees i) r (omega arith)
+      job-head (F i) scan (J i) (sizes_at i) (at-agrees i) r (omega arith)
       ∙ ap (λ (g : List ℕ). placed j (min i T + 1) (take 32 g)) (stage-file i) ∙ ap (λ (w : ℕ). placed j w (take 32 (F (suc i)))) (omega arith))
       (λ (h : T ≤ i).
-      job-past (F i) scan (J i) (sizesAt i) (at-agrees i) r (omega arith)
+      job-past (F i) scan (J i) (sizes_at i) (at-agrees i) r (omega arith)
       ∙ ap (λ (g : List ℕ). placed j (min i T) (take 32 g)) (end_stays Y i h ∙ sym (end_stays Y (suc i) (omega arith)))
       ∙ ap (λ (w : ℕ). placed j w (take 32 (F (suc i)))) (omega arith))
       (lt-or-ge i T)
@@ -105,18 +105,18 @@ module _ {z : Sizes} {f scan : List ℕ} {j : Job} (Y : Ready z f scan j) (A : A
 
   -- while a write is left: its record, and the count
   pub stage-wrote : (i : ℕ) → i < total_of z j
-      → step_answer (file_at f scan j i) scan (job_at z f scan j i) ≡ Wrote (get_or (writes_of (file_at f scan j i) (sizesAt i) j scan) i no_write).record_no (i + 1)
+      → step_answer (file_at f scan j i) scan (job_at z f scan j i) ≡ Wrote (get_or (writes_of (file_at f scan j i) (sizes_at i) j scan) i no_write).record_no (i + 1)
   stage-wrote i h =
-      answer-wrote (F i) scan (J i) (sizesAt i) (at-agrees i) (along Y i).sound.booted.reads (omega arith)
+      answer-wrote (F i) scan (J i) (sizes_at i) (at-agrees i) (along Y i).sound.booted.reads (omega arith)
       ∙ ap (λ (w : Write). Wrote w.record_no (min i T + 1)) (next-write i)
-      ∙ ap (Wrote (get_or (writes_of (F i) (sizesAt i) j scan) i no_write).record_no) (omega arith)
+      ∙ ap (Wrote (get_or (writes_of (F i) (sizes_at i) j scan) i no_write).record_no) (omega arith)
 
   -- with none left: the file is judged, and the change confirmed
   pub stage-confirms : (i : ℕ) → total_of z j ≤ i
       → step_answer (file_at f scan j i) scan (job_at z f scan j i) ≡ cond j.saves (Saved 0 (total_of z j)) (Cleared 0 (total_of z j))
   stage-confirms i h =
       let a = along Y i in
-      let y : Sizes = sizesAt i in
+      let y : Sizes = sizes_at i in
       let e : min i T ≡ T = omega arith in
       let late : count_of z j + 2 ≤ i = omega arith in
       let entry : entry_at (F i) z j.slot ≡ entry_after y (J i) =

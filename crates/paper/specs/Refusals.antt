@@ -40,6 +40,10 @@ number_of NotVersionOne = 18
 number_of NotConvertible = 19
 number_of NotAllCame = 20
 
+-- the table's last number: a new refusal, with a number of its own, raises it
+abbrev pub highest_refusal : ℕ
+highest_refusal = 20
+
 -- "with slot or reason where shown, else 0"
 abbrev pub value_of : Refusal → ℕ
 value_of TooShort = 0

@@ -134,7 +134,7 @@ pub record Shaped (z : Sizes) : Type 0 where
   pub divides : z.l % z.m ≡ 0
   pub slots : capacity_of z ≤ 4096
 
--- what `inRange` says
+-- what `in_range` says
 pub record Ranged (z : Sizes) : Type 0 where
   pub shape : Shaped z
   pub records : z.n + z.d ≤ 1000000

@@ -2,7 +2,7 @@
 use super::answer::Taken;
 
 // What the mode makes of bytes 36 to 47: the type code, and the two values with their names.
-#[derive(Drop)]
+#[derive(Clone, Copy)]
 pub enum Kind {
     // Frequency resolution, and rest frequency in MHz.
     Spectral(usize, f32, f64),
@@ -13,7 +13,7 @@ pub enum Kind {
 }
 
 // Bytes 0 to 61, of the old form 0 to 59. Each Real is kept as its bits.
-#[derive(Drop)]
+#[derive(Clone, Copy)]
 pub struct Entry {
     pub first: u32,
     pub last: u32,
@@ -34,7 +34,7 @@ pub struct Entry {
 }
 
 // The entry stands beside the answer, since an enum holds no array; it is all zeros where the call is refused.
-#[derive(Drop)]
+#[derive(Clone, Copy)]
 pub struct Found {
     pub answer: Taken,
     pub entry: Entry,

@@ -2,7 +2,7 @@
 use super::answer::Taken;
 use super::refusal::Refusal;
 
-#[derive(Drop)]
+#[derive(Clone, Copy)]
 pub struct Job {
     // A save or a keep; a clear where false.
     pub saves: bool,
@@ -25,14 +25,14 @@ pub struct Job {
 }
 
 // A refused beginning hands back a job of zeros.
-#[derive(Drop)]
+#[derive(Clone, Copy)]
 pub struct Begun {
     pub answer: Taken,
     pub job: Job,
 }
 
 // The record written (0 when confirming), and the count of records written so far.
-#[derive(Drop)]
+#[derive(Clone, Copy)]
 pub enum Step {
     Wrote(usize, usize),
     Saved(usize, usize),
@@ -41,7 +41,7 @@ pub enum Step {
 }
 
 // A refused step hands back the job as it was.
-#[derive(Drop)]
+#[derive(Clone, Copy)]
 pub struct Stepped {
     pub answer: Step,
     pub job: Job,

@@ -1,7 +1,7 @@
 //! A link: what is known of a file whose bytes come in pieces.
 use super::answer::Taken;
 
-#[derive(Drop)]
+#[derive(Clone, Copy)]
 pub struct Link {
     // The file's length, as it was given first.
     pub span: usize,
@@ -14,7 +14,7 @@ pub struct Link {
 }
 
 // A refused beginning hands back a link of zeros, a refused take the link as it was.
-#[derive(Drop)]
+#[derive(Clone, Copy)]
 pub struct Linked {
     pub answer: Taken,
     pub link: Link,

@@ -3,7 +3,7 @@ ghost use Rattle.std.specs.Prelude.{◌≡◌};
 ghost use Rattle.paper.specs.Sizes.{capacity_of, record_of, place_of, home_of, room_of, Shaped, Slotted};
 
 // What the bootstrap's words say, in either form.
-#[derive(Drop)]
+#[derive(Clone, Copy)]
 pub struct Sizes {
     pub n: usize,
     pub d: usize,
@@ -79,7 +79,7 @@ impl Sizes {
 }
 
 // The records of one entry, first to last. Both are 0 where the entry is empty.
-#[derive(Drop)]
+#[derive(Clone, Copy)]
 pub struct Run {
     pub first: usize,
     pub last: usize,

@@ -1,23 +1,25 @@
 -- 01, "Numbers to hold us to": what the paper says of its run, line by line.
-use Rattle.std.specs.Prelude.{ℕ, ◌≡◌, true, false, List, [], ◌∷◌, length, take, drop, replicate}
+use Rattle.std.specs.Prelude.{ℕ, ◌+◌, ◌≡◌, true, false, length, take, drop, replicate}
+use mathlib.Core.List.{List, [], ◌∷◌, Memᴰ}
 use Rattle.lent.specs.Part.{part}
 use Rattle.lent.specs.Write.{write}
+use Rattle.paper.specs.declared.sizes.Sizes.{Sizes}
 use Rattle.paper.specs.declared.answer.Ruled.TheVariants.{Keeps}
 use Rattle.paper.specs.declared.answer.Opened.{Opened}
 use Rattle.paper.specs.declared.answer.Opened.TheVariants.{Opens}
 use Rattle.paper.specs.declared.answer.Opened.TheVariants as opened
 use Rattle.paper.specs.declared.answer.Taken.TheVariants.{Accepted}
 use Rattle.paper.specs.declared.answer.Asked.TheVariants.{Is}
-use Rattle.paper.specs.declared.refusal.Refusal.TheVariants.{BadEntry, Differs, NotAllCame}
+use Rattle.paper.specs.declared.refusal.Refusal.TheVariants.{BadEntry, Disagrees, Differs, NotAllCame}
 use Rattle.paper.specs.declared.job.Step.TheVariants.{Wrote, Saved, Cleared, Refused}
 use Rattle.paper.specs.Refusals.{taken_says}
 use Rattle.paper.specs.Sizes.{sizes_of, capacity_of, room_of}
-use Rattle.paper.specs.Index.{open_of}
-use Rattle.paper.specs.Scan.{ruled_of, part_of}
-use Rattle.paper.specs.Look.{read_of}
-use Rattle.paper.specs.Store.{blank_of, save_of}
+use Rattle.paper.specs.Index.{run_of, shown_of, open_of}
+use Rattle.paper.specs.Scan.{headlen, datalen, Rule, ruled_of, part_of}
+use Rattle.paper.specs.Look.{list_of, read_of}
+use Rattle.paper.specs.Store.{records_for, many_of, blank_of, save_of}
 use Rattle.paper.specs.Step.{step_answer}
-use Rattle.paper.specs.Gaps.{gaps_of}
+use Rattle.paper.specs.Gaps.{gaps_of, GapsZero}
 use Rattle.paper.specs.Find.{report_out}
 use Rattle.paper.specs.Lister.{list_text}
 use Rattle.paper_run.specs.Scans.{scan1, scan2, scan3, scan4, scan5}
@@ -94,6 +96,14 @@ pub record Zeroed : Type 0 where
   -- "A confirmed replacement stepped again once a later save's data stand in its zeroed records gets 15"
   pub stepped_again : step_answer (saved 1 file3 2 scan4) scan3 (job_after 7 file2 scan3 (save_of file2 1 scan3 about).job) ≡ Refused Differs
 
+pub record ZeroedPast : Type 0 where
+  -- a cut before record 1: records 7 and 8 have the new scan, and N+D is 6 still. They are no data records, so nobody asks about them
+  pub past_the_data : (sizes_of (saved 2 file2 1 scan3)).d ≡ 3
+  pub scan_past : part 3072 4072 (saved 2 file2 1 scan3) ≡ scan3
+  pub cut_first : gaps_of (saved 2 file2 1 scan3) ≡ Is true
+  -- and, once that save has written its record 1, 14: the job's 32 bytes are no longer the file's
+  pub stepped_later : step_answer (saved 3 file3 2 scan4) scan3 (job_after 7 file2 scan3 (save_of file2 1 scan3 about).job) ≡ Refused Disagrees
+
 -- 02, 2026-06: the scans that are found. That file opens, its free records are zeros, and its scans keep the rules and fill their records: "the reported runs
 -- are the listed ones, each once, in record order". The bytes of their words are all 1, 2 or 3
 pub record Found : Type 0 where
@@ -102,6 +112,23 @@ pub record Found : Type 0 where
   pub lost : report_out (write file3 512 (replicate 1024 165)) (replicate 6 0) ≡ 6 ∷ 6 ∷ 144680345676153346 ∷ 7 ∷ 8 ∷ 217020518514230019 ∷ []
   -- after a cut the old scan is left in records 4 and 5, and is found too
   pub left : report_out (saved 4 file2 1 scan3) (replicate 9 0) ≡ 4 ∷ 5 ∷ 72340172838076673 ∷ 6 ∷ 6 ∷ 144680345676153346 ∷ 7 ∷ 8 ∷ 217020518514230019 ∷ []
+
+abbrev pub sizes3 : Sizes
+sizes3 = record { n = 3; d = 5; l = 512; m = 64; u = 9; counter = 3; kind = 0; version = 1 }
+
+-- "On a file that opens, whose free records are all zeros and whose scans all obey the rules and fill exactly their records": the premises, as `FindsListed` in
+-- `demands` asks for them
+pub record FoundPremises : Type 0 where
+  pub opens : open_of file3 ≡ Opens sizes3
+  pub free : GapsZero file3 sizes3
+  pub obey : (s : ℕ) → Memᴰ s (list_of file3) → (n : ℕ) → Rule (shown_of file3 sizes3 s) false n
+  pub fill : (s : ℕ) → Memᴰ s (list_of file3)
+      → records_for sizes3 (headlen (shown_of file3 sizes3 s) + datalen (shown_of file3 sizes3 s)) ≡ many_of (run_of file3 sizes3 s)
+
+-- after a cut the new scan is found once record 1 has it in the data section; but before that it lies past N+D, in records 7 and 8, and is not found
+pub record FoundCut : Type 0 where
+  pub reached : report_out (saved 3 file2 1 scan3) (replicate 9 0) ≡ 4 ∷ 5 ∷ 72340172838076673 ∷ 6 ∷ 6 ∷ 144680345676153346 ∷ 7 ∷ 8 ∷ 217020518514230019 ∷ []
+  pub not_past : report_out (saved 2 file2 1 scan3) (replicate 9 0) ≡ 4 ∷ 5 ∷ 72340172838076673 ∷ 6 ∷ 6 ∷ 144680345676153346 ∷ 0 ∷ 0 ∷ 0 ∷ []
 
 -- 02, 2026-07: that file over the slow link, cut in its bootstrap, after 14 bytes, and in slot 9's first number, which is bytes 1,024 to 1,027. Its index ends
 -- after 1,536

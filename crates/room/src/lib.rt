@@ -1,4 +1,6 @@
 //! Where a scan can go: the lowest empty slot, and the lowest place of k records that belong to no scan.
+#![tactic(auto)]
+
 ghost use Rattle.std.specs.Prelude.{◌≡◌, ◌*◌, ◌≤◌, length};
 ghost use Rattle.paper.specs.Sizes.{Ranged};
 ghost use Rattle.paper.specs.Store.{free_place};

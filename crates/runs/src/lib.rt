@@ -1,4 +1,6 @@
 //! The index judged by its runs in the row, refusals 6 to 8: by their order where they rise, by marks where they do not, and by the plain rules where a mark is met.
+#![tactic(auto)]
+
 ghost use Rattle.std.specs.Prelude.{◌≡◌, true, ◌+◌, ◌≤◌, ◌<◌, length};
 ghost use Rattle.lent.specs.Least.{least};
 ghost use Rattle.marks.specs.Marks.{Clear};

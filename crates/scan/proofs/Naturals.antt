@@ -31,4 +31,4 @@ natural-le (pos n) = le_refl n
 natural-le (negsuc n) = zero-le
 
 pub same16 : (a : ℤ) → mag a < 32768 → to_z w16 (of_z w16 a) ≡ a
-same16 a h = to_z-of_z (record { sfits = h })
+same16 a h = to_z-of_z {w = w16} (record { sfits = h })

@@ -1,4 +1,6 @@
 //! The scan: where a class and the data of a run of bytes lie, and the parts themselves.
+#![tactic(auto)]
+
 ghost use Rattle.std.specs.Prelude.{◌≡◌};
 ghost use Rattle.paper.specs.Refusals.{span_says};
 ghost use Rattle.lent.specs.Part.{bytes_on};

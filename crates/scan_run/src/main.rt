@@ -1,9 +1,12 @@
+#![tactic(auto)]
 // Expands each line of the input into a run of bytes, and writes what is said of it: the rules when reading and when saving, where the
 // classes 1, 13, 15, 16 and 0 and the data lie, and the sums of the bytes of class 1 and of the data.
-ghost use Rattle.std.specs.Prelude.{◌<◌};
+ghost use Rattle.std.specs.Prelude.{◌<◌, ◌≤◌, length, IfOk};
 
 use paper::answer::{Ruled, Span};
 use paper::refusal::Refusal;
+use std::io;
+use std::io::Read;
 
 // A line holds in hexadecimal the length (from column 0), the byte to fill from (column 7) and the first 48 bytes (column 10).
 const LINE: usize = 107;
@@ -33,64 +36,57 @@ fn number_at(line: &[u8], at: usize, n: usize) -> usize
     requires n_bound { n < 1000 }
 {
     let mut value: usize = 0;
-    let mut i: usize = 0;
-    while i < n {
+    for i in 0..n {
         value = value % 65536 * 16 + digit(lent::read::byte(line, at + i));
-        i += 1;
     }
     value
 }
 
 // Bytes that differ from one to the next.
 fn fill(run: &mut [u8; 70016], seed: usize) {
-    let mut i: usize = 0;
-    while i < 70016 {
+    for i in 0..70016 {
         run[i] = ((i * 7 + seed % 256) % 256) as u8;
-        i += 1;
     }
 }
 
 // The preamble and the two lengths.
 fn begin(run: &mut [u8; 70016], line: &[u8]) {
-    let mut i: usize = 0;
-    while i < 48 {
+    for i in 0..48 {
         run[i] = (number_at(line, 10 + 2 * i, 2) % 256) as u8;
-        i += 1;
     }
 }
 
-fn number(n: usize) {
-    io::write_all(1, b" ");
-    io::print_decimal(1, n as u64);
+fn number(rt: &impl Print, n: usize) -> io::Result<()> {
+    print!(rt; " {n}")
 }
 
-fn verdict(r: Ruled) {
+fn verdict(rt: &impl Print, r: Ruled) -> io::Result<()> {
     match r {
         Ruled::Keeps(head, rest) => {
-            number(head);
-            number(rest);
+            number(rt, head)?;
+            number(rt, rest)?;
         }
         Ruled::Breaks(reason) => {
-            io::write_all(1, b" broken");
-            number(reason);
+            print!(rt; " broken")?;
+            number(rt, reason)?;
         }
     }
-    io::write_all(1, b" |");
+    print!(rt; " |")
 }
 
-fn place(s: Span) {
+fn place(rt: &impl Print, s: Span) -> io::Result<()> {
     match s {
         Span::Part(from, to) => {
-            number(from);
-            number(to);
+            number(rt, from)?;
+            number(rt, to)?;
         }
         Span::Refused(r) => {
-            io::write_all(1, b" refused");
-            number(Refusal::number(r));
-            number(Refusal::value(r));
+            print!(rt; " refused")?;
+            number(rt, r.number())?;
+            number(rt, r.value())?;
         }
     }
-    io::write_all(1, b" |");
+    print!(rt; " |")
 }
 
 fn wide(b: u8) -> u64 {
@@ -98,53 +94,66 @@ fn wide(b: u8) -> u64 {
 }
 
 // The sum of the bytes of a part, which tells one part from another.
-fn sum(s: &[u8]) {
+fn sum(rt: &impl Print, s: &[u8]) -> io::Result<()> {
     let mut total: u64 = 0;
-    let mut i: usize = 0;
-    while i < s.len() {
-        total = std::num::wrapping_add_u64(total, wide(s[i]));
-        i += 1;
+    for b in s {
+        total = total.wrapping_add(wide(*b));
     }
-    io::write_all(1, b" ");
-    io::print_decimal(1, total);
+    print!(rt; " {total}")
 }
 
-fn report(run: &[u8]) {
-    number(run.len());
-    io::write_all(1, b" |");
-    verdict(scan::rules::judge(run, false));
-    verdict(scan::rules::judge(run, true));
-    place(scan::class(run, 1));
-    place(scan::class(run, 13));
-    place(scan::class(run, 15));
-    place(scan::class(run, 16));
-    place(scan::class(run, 0));
-    place(scan::data(run));
-    sum(scan::class_part(run, 1));
-    sum(scan::data_part(run));
-    io::write_all(1, b"\n");
+fn report(rt: &impl Print, run: &[u8]) -> io::Result<()> {
+    number(rt, run.len())?;
+    print!(rt; " |")?;
+    verdict(rt, scan::rules::judge(run, false))?;
+    verdict(rt, scan::rules::judge(run, true))?;
+    place(rt, scan::class(run, 1))?;
+    place(rt, scan::class(run, 13))?;
+    place(rt, scan::class(run, 15))?;
+    place(rt, scan::class(run, 16))?;
+    place(rt, scan::class(run, 0))?;
+    place(rt, scan::data(run))?;
+    sum(rt, scan::class_part(run, 1))?;
+    sum(rt, scan::data_part(run))?;
+    println!(rt)
 }
 
 // An array behind a reference keeps its length in its type.
-fn report_first(run: &[u8; 70016], size: usize) {
-    report(lent::part::part(run, 0, size));
+fn report_first(rt: &impl Print, run: &[u8; 70016], size: usize) -> io::Result<()> {
+    report(rt, lent::part::part(run, 0, size))
 }
 
-fn expand(line: &[u8]) {
+fn expand(rt: &impl Print, line: &[u8]) -> io::Result<()> {
     let mut run = [0u8; 70016];
     fill(&mut run, number_at(line, 7, 2));
     begin(&mut run, line);
-    report_first(&run, number_at(line, 0, 6));
+    report_first(rt, &run, number_at(line, 0, 6))
 }
 
-fn main() {
-    let mut buf = io::large_buffer();
-    let n = io::read_full(0, &mut buf);
+// Reads until the input ends or the memory is full; the answer is how many bytes came.
+fn read_full(input: &mut impl Read, room: &mut [u8]) -> io::Result<usize>
+    ensures { IfOk result (λ n. n ≤ length room.new) }
+{
+    let mut n = 0;
+    while n < room.len() {
+        let k = input.read(&mut room[n..])?;
+        if k == 0 {
+            break;
+        }
+        n += k;
+    }
+    Ok(n)
+}
+
+fn main(rt: HostRuntime) -> io::Result<()> {
+    let mut buf = [0u8; 65536];
+    let n = read_full(&mut rt.stdin(), &mut buf)?;
     for k in 0..600 {
         let from = k * LINE;
         let to = from + LINE;
         if to <= n {
-            expand(lent::part::part(&buf, from, to));
+            expand(&rt, lent::part::part(&buf, from, to))?;
         }
     }
+    Ok(())
 }

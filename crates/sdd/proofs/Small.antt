@@ -1,4 +1,4 @@
--- Refusal numbers end at 20, slots at 4,096 and reasons at 6: what a refusal says fits the face.
+-- Slots end at 4,096 and reasons at 6, so what a refusal says beside its number fits the face.
 use Prim.Native.Nat.{ℕ, ◌-◌, ◌*◌, ◌≤◌, ◌<◌}
 use mathlib.Core.Path.{◌≡◌, refl, sym, ◌∙◌, subst}
 use mathlib.Core.Bool.{Bool, true, false, not, cond}
@@ -16,7 +16,7 @@ use Rattle.lent.proofs.Checks.{clear≢fires, fires-same, judge-fires}
 use Rattle.paper.specs.declared.sizes.Sizes.{Sizes}
 use Rattle.paper.specs.declared.sizes.Run.{Run}
 use Rattle.paper.specs.declared.refusal.Refusal.{Refusal}
-use Rattle.paper.specs.declared.refusal.Refusal.TheVariants.{TooShort, OldForm, UnknownForm, OutOfRange, PastEnd, BadEntry, AboveUse, SharedRecord, NoSuchSlot, EmptySlot, BadScan, NoEmptySlot, NoRoom, Disagrees, Differs, BadBlank, TooSmall, NotVersionOne, NotConvertible, NotAllCame}
+use Rattle.paper.specs.declared.refusal.Refusal.TheVariants.{TooShort, OldForm, UnknownForm, OutOfRange, PastEnd, NoEmptySlot, Disagrees, Differs, TooSmall, NotAllCame}
 use Rattle.paper.specs.declared.answer.Opened.{Opened}
 use Rattle.paper.specs.declared.answer.Opened.TheVariants as opened
 use Rattle.paper.specs.declared.answer.Listed.TheVariants as listed
@@ -32,7 +32,7 @@ use Rattle.paper.specs.declared.job.Job.{Job}
 use Rattle.paper.specs.declared.job.Begun.{Begun}
 use Rattle.paper.specs.declared.job.Step.{Step}
 use Rattle.paper.specs.declared.job.Step.TheVariants as step
-use Rattle.paper.specs.Refusals.{number_of, value_of}
+use Rattle.paper.specs.Refusals.{value_of}
 use Rattle.paper.specs.Sizes.{sizes_of, version_of, start_of, capacity_of, bytes_of, in_range, short, boot_checks, Ranged}
 use Rattle.paper.specs.Index.{run_of, row_run, shown_of, bad_at, above_at, shared_at, index_checks, open_checks, change_checks, boot_of, index_of, open_of}
 use Rattle.paper.specs.Scan.{ruled_of, class_at, class_end, class_in, of_ruled, class_of, data_of, starts_of, classes_of}
@@ -46,28 +46,6 @@ use Rattle.paper.specs.Step.{agrees, has_left, wrote_of, confirmed, confirm_of, 
 use Rattle.paper.proofs.Opening.{range-facts, boot-sound, boot-fires, open-index, open-refused, open-sound, refused-fires, then-opens, then-refused, change-old, change-look}
 use Rattle.paper.proofs.Reasons.{reason-least}
 use Rattle.sdd.specs.Face.{OpenedSmall, TakenSmall, SpanSmall, ListedSmall, AskedSmall, StepSmall}
-
-pub number_small : (r : Refusal) → number_of r ≤ 20
-number_small TooShort = omega arith
-number_small OldForm = omega arith
-number_small UnknownForm = omega arith
-number_small OutOfRange = omega arith
-number_small PastEnd = omega arith
-number_small (BadEntry s) = omega arith
-number_small (AboveUse s) = omega arith
-number_small (SharedRecord s) = omega arith
-number_small NoSuchSlot = omega arith
-number_small EmptySlot = omega arith
-number_small (BadScan k) = omega arith
-number_small NoEmptySlot = omega arith
-number_small NoRoom = omega arith
-number_small Disagrees = omega arith
-number_small Differs = omega arith
-number_small BadBlank = omega arith
-number_small TooSmall = omega arith
-number_small NotVersionOne = omega arith
-number_small NotConvertible = omega arith
-number_small NotAllCame = omega arith
 
 -- ---- checks whose refusals have small values
 

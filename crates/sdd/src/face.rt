@@ -2,14 +2,14 @@
 
 // The paper's refusal number with its slot or reason; 0 and 0 where the call is accepted.
 #[repr(C)]
-#[derive(Drop)]
+#[derive(Clone, Copy)]
 pub struct Why {
     pub number: u32,
     pub value: u32,
 }
 
 #[repr(C)]
-#[derive(Drop)]
+#[derive(Clone, Copy)]
 pub struct COpened {
     pub why: Why,
     pub n: u64,
@@ -26,21 +26,21 @@ pub struct COpened {
 }
 
 #[repr(C)]
-#[derive(Drop)]
+#[derive(Clone, Copy)]
 pub struct CListed {
     pub why: Why,
     pub scans: u64,
 }
 
 #[repr(C)]
-#[derive(Drop)]
+#[derive(Clone, Copy)]
 pub struct CAnswer {
     pub why: Why,
     pub yes: u64,
 }
 
 #[repr(C)]
-#[derive(Drop)]
+#[derive(Clone, Copy)]
 pub struct CSpan {
     pub why: Why,
     pub from: u64,
@@ -48,7 +48,7 @@ pub struct CSpan {
 }
 
 #[repr(C)]
-#[derive(Drop)]
+#[derive(Clone, Copy)]
 pub struct CEntry {
     pub why: Why,
     pub first: u32,
@@ -71,7 +71,7 @@ pub struct CEntry {
 }
 
 #[repr(C)]
-#[derive(Drop)]
+#[derive(Clone, Copy)]
 pub struct CJob {
     pub saves: u64,
     pub slot: u64,
@@ -87,14 +87,14 @@ pub struct CJob {
 }
 
 #[repr(C)]
-#[derive(Drop)]
+#[derive(Clone, Copy)]
 pub struct CBegun {
     pub why: Why,
     pub job: CJob,
 }
 
 #[repr(C)]
-#[derive(Drop)]
+#[derive(Clone, Copy)]
 pub struct CStepped {
     pub why: Why,
     pub done: u64,
@@ -105,7 +105,7 @@ pub struct CStepped {
 
 // A verdict under way: boot, length, came and index_end. The array stands first, so that in an answer each part lies where a copy of the link reads it.
 #[repr(C)]
-#[derive(Drop)]
+#[derive(Clone, Copy)]
 pub struct CLink {
     pub boot: [u8; 32],
     pub span: u64,
@@ -114,7 +114,7 @@ pub struct CLink {
 }
 
 #[repr(C)]
-#[derive(Drop)]
+#[derive(Clone, Copy)]
 pub struct CLinked {
     pub why: Why,
     pub link: CLink,

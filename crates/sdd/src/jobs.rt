@@ -100,7 +100,7 @@ pub extern "C" fn sdd_clear(file: &[u8], slot: u64) -> CBegun
 }
 
 // What a step says of itself, in numbers: the answer but for its job.
-#[derive(Drop)]
+#[derive(Clone, Copy)]
 pub struct Told {
     pub why: Why,
     pub done: u64,

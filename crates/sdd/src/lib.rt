@@ -1,4 +1,6 @@
 //! The C face: what a host links. Each call hands on to a proved one and turns its answer into numbers, by a `match` for each enum.
+#![tactic(auto)]
+
 pub mod face;
 pub mod forms;
 pub mod jobs;

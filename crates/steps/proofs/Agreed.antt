@@ -13,7 +13,7 @@ use Rattle.lent.proofs.Lists.{not_so, All, all_true, true-all, true≢false, eit
 use Rattle.lent.proofs.Sames.{same_true, true_same}
 use Rattle.paper.specs.declared.sizes.Sizes.{Sizes}
 use Rattle.paper.specs.declared.job.Job.{Job}
-use Rattle.paper.specs.Sizes.{sizes_of, version_of, start_of, room_of, Shaped}
+use Rattle.paper.specs.Sizes.{sizes_of, version_of, room_of, Shaped}
 use Rattle.paper.specs.Index.{Booted}
 use Rattle.paper.specs.Store.{records_for, count_of, change_of, total_of}
 use Rattle.paper.specs.Look.{slot_tests}
@@ -185,11 +185,11 @@ module _ (f scan : List ℕ) (j : Job) (z : Sizes) where
     pub count_small : count_of z j ≤ 1000001
     count_small = ⊎_elim (λ e. omega (arith, placed e)) (λ e. omega (arith, count-clear z j e)) (either j.saves)
 
-    pub old-small : j.many ≤ 1000001
-    old-small = ⊎_elim (λ (h : 0 < j.many). omega (arith, a.old_within h)) (λ (h : j.many ≤ 0). omega arith) (lt-or-ge 0 j.many)
+    pub old_small : j.many ≤ 1000001
+    old_small = ⊎_elim (λ (h : 0 < j.many). omega (arith, a.old_within h)) (λ (h : j.many ≤ 0). omega arith) (lt-or-ge 0 j.many)
 
     pub total-small : total_of z j ≤ 2000005
-    total-small = omega (arith, count_small, old-small, change-most z j)
+    total-small = omega (arith, count_small, old_small, change-most z j)
 
     pub homed : Homed f z j
     homed =
@@ -217,7 +217,7 @@ module _ (f scan : List ℕ) (j : Job) (z : Sizes) where
         record {
           low = λ h. omega (arith, a.old_past h);
           from = λ h. mul-le-mul {n₂ = 1000000} {m₂ = 4096} (omega (arith, a.old_within h)) shape.l_high;
-          size = λ h. mul-le-mul {n₂ = 1000001} {m₂ = 4096} old-small shape.l_high;
+          size = λ h. mul-le-mul {n₂ = 1000001} {m₂ = 4096} old_small shape.l_high;
           within = λ h. rows_in z (length f) j.old j.many (omega (arith, a.old_past h)) (a.old_within h);
         }
 

@@ -1,4 +1,6 @@
 //! One step of a job: refusal 14, then the write at the job's place in its list or the confirmation.
+#![tactic(auto)]
+
 ghost use Rattle.std.specs.Prelude.{◌≡◌, true, take};
 ghost use Rattle.lent.specs.Write.{write};
 ghost use Rattle.paper.specs.Sizes.{boot_bytes};

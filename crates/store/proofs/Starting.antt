@@ -100,33 +100,33 @@ module _ (f : List ℕ) (slot : ℕ) (z : Sizes) (opens : change_of f ≡ Opens 
   slot-passed cs a e = passes-first _ _ cs a (ap not (slot-test true e))
 
 module _ (f : List ℕ) (slot : ℕ) (scan about : List ℕ) (o : Opened) (is : o ≡ change_of f) (x : Begun) where
-  abbrev saveChecks : List (Check Refusal)
-  saveChecks = no_slot (sizes_of f) slot ∷ scan_checks f scan
+  abbrev save_checks : List (Check Refusal)
+  save_checks = no_slot (sizes_of f) slot ∷ scan_checks f scan
 
   pub save-out : (r : Refusal) → o ≡ Refused r → x ≡ refused_by o → x ≡ save_of f slot scan about
   unfolding save_of
-  save-out r q p = out f o is saveChecks (accepted (save_job f slot scan about)) r x q p
+  save-out r q p = out f o is save_checks (accepted (save_job f slot scan about)) r x q p
 
   pub save-no-slot : (z : Sizes) → o ≡ Opens z → has_slot z slot ≡ false → x ≡ refused NoSuchSlot → x ≡ save_of f slot scan about
   unfolding save_of
   save-no-slot z q e p =
-      p ∙ no-slot f slot z (sym is ∙ q) (scan_checks f scan) _ e ∙ on f o is saveChecks (accepted (save_job f slot scan about)) z q
+      p ∙ no-slot f slot z (sym is ∙ q) (scan_checks f scan) _ e ∙ on f o is save_checks (accepted (save_job f slot scan about)) z q
 
   pub save-on : (z : Sizes) → o ≡ Opens z → has_slot z slot ≡ true → x ≡ placed_of f slot scan about → x ≡ save_of f slot scan about
   unfolding save_of placed_of
   save-on z q e p =
-      p ∙ slot-passed f slot z (sym is ∙ q) (scan_checks f scan) _ e ∙ on f o is saveChecks (accepted (save_job f slot scan about)) z q
+      p ∙ slot-passed f slot z (sym is ∙ q) (scan_checks f scan) _ e ∙ on f o is save_checks (accepted (save_job f slot scan about)) z q
 
 module _ (f scan about : List ℕ) (o : Opened) (is : o ≡ change_of f) (x : Begun) where
-  abbrev keepChecks : List (Check Refusal)
-  keepChecks = check (eqb (keep_slot f) 0) NoEmptySlot ∷ scan_checks f scan
+  abbrev keep_checks : List (Check Refusal)
+  keep_checks = check (eqb (keep_slot f) 0) NoEmptySlot ∷ scan_checks f scan
 
-  abbrev keepJob : Begun
-  keepJob = accepted (save_job f (keep_slot f) scan about)
+  abbrev keep_job : Begun
+  keep_job = accepted (save_job f (keep_slot f) scan about)
 
   pub keep_out : (r : Refusal) → o ≡ Refused r → x ≡ refused_by o → x ≡ keep_of f scan about
   unfolding keep_of
-  keep_out r q p = out f o is keepChecks keepJob r x q p
+  keep_out r q p = out f o is keep_checks keep_job r x q p
 
   module _ (z : Sizes) (q : o ≡ Opens z) (slot : ℕ) (lowest : slot ≡ empty_slot z (run_of f z)) where
     slot_is : slot ≡ keep_slot f
@@ -134,33 +134,33 @@ module _ (f scan about : List ℕ) (o : Opened) (is : o ≡ change_of f) (x : Be
 
     pub keep-none : slot ≡ 0 → x ≡ refused NoEmptySlot → x ≡ keep_of f scan about
     unfolding keep_of
-    keep-none e p = p ∙ fires-first _ _ (scan_checks f scan) keepJob (eq-eqb _ _ (sym slot_is ∙ e)) ∙ on f o is keepChecks keepJob z q
+    keep-none e p = p ∙ fires-first _ _ (scan_checks f scan) keep_job (eq-eqb _ _ (sym slot_is ∙ e)) ∙ on f o is keep_checks keep_job z q
 
     pub keep-on : (slot ≡ 0 → ⊥) → x ≡ placed_of f slot scan about → x ≡ keep_of f scan about
     unfolding keep_of placed_of
     keep-on e p =
         p ∙ ap (λ (s : ℕ). judge refused (scan_checks f scan) (accepted (save_job f s scan about))) slot_is
-        ∙ passes-first _ _ (scan_checks f scan) keepJob (ne_eqb _ _ (λ n. e (slot_is ∙ n))) ∙ on f o is keepChecks keepJob z q
+        ∙ passes-first _ _ (scan_checks f scan) keep_job (ne_eqb _ _ (λ n. e (slot_is ∙ n))) ∙ on f o is keep_checks keep_job z q
 
 pub goal-out : (f : List ℕ) (g : Goal) (scan about : List ℕ) (o : Opened) → o ≡ change_of f → (x : Begun) (r : Refusal) → o ≡ Refused r → x ≡ refused_by o → x ≡ begun_of f g scan about
 goal-out f (Slot s) scan about o is x r q p = save-out f s scan about o is x r q p
 goal-out f LowestEmpty scan about o is x r q p = keep_out f scan about o is x r q p
 
 module _ (f : List ℕ) (slot : ℕ) (o : Opened) (is : o ≡ change_of f) (x : Begun) where
-  abbrev clearChecks : List (Check Refusal)
-  clearChecks = no_slot (sizes_of f) slot ∷ no_scan (run_of f (sizes_of f) slot) ∷ []
+  abbrev clear_checks : List (Check Refusal)
+  clear_checks = no_slot (sizes_of f) slot ∷ no_scan (run_of f (sizes_of f) slot) ∷ []
 
   abbrev clearing : Begun
   clearing = accepted (clear_job f slot)
 
   pub clear-out : (r : Refusal) → o ≡ Refused r → x ≡ refused_by o → x ≡ clear_of f slot
   unfolding clear_of
-  clear-out r q p = out f o is clearChecks clearing r x q p
+  clear-out r q p = out f o is clear_checks clearing r x q p
 
   module _ (z : Sizes) (q : o ≡ Opens z) where
     pub clear-no-slot : has_slot z slot ≡ false → x ≡ refused NoSuchSlot → x ≡ clear_of f slot
     unfolding clear_of
-    clear-no-slot e p = p ∙ no-slot f slot z (sym is ∙ q) (no_scan (run_of f (sizes_of f) slot) ∷ []) _ e ∙ on f o is clearChecks clearing z q
+    clear-no-slot e p = p ∙ no-slot f slot z (sym is ∙ q) (no_scan (run_of f (sizes_of f) slot) ∷ []) _ e ∙ on f o is clear_checks clearing z q
 
     empty-is : (a : Run) (b t : Bool) → a ≡ run_of f z slot → b ≡ empty a → b ≡ t → empty (run_of f (sizes_of f) slot) ≡ t
     empty-is a b t r e h =
@@ -171,10 +171,10 @@ module _ (f : List ℕ) (slot : ℕ) (o : Opened) (is : o ≡ change_of f) (x : 
       unfolding clear_of
       clear-empty e p =
           p ∙ fires-first _ _ [] clearing (empty-is a b true run test e)
-          ∙ slot-passed f slot z (sym is ∙ q) (no_scan (run_of f (sizes_of f) slot) ∷ []) _ slotted ∙ on f o is clearChecks clearing z q
+          ∙ slot-passed f slot z (sym is ∙ q) (no_scan (run_of f (sizes_of f) slot) ∷ []) _ slotted ∙ on f o is clear_checks clearing z q
 
       pub clear-on : b ≡ false → x ≡ accepted (clear_job f slot) → x ≡ clear_of f slot
       unfolding clear_of
       clear-on e p =
           p ∙ passes-first _ _ [] clearing (empty-is a b false run test e)
-          ∙ slot-passed f slot z (sym is ∙ q) (no_scan (run_of f (sizes_of f) slot) ∷ []) _ slotted ∙ on f o is clearChecks clearing z q
+          ∙ slot-passed f slot z (sym is ∙ q) (no_scan (run_of f (sizes_of f) slot) ∷ []) _ slotted ∙ on f o is clear_checks clearing z q

@@ -10,7 +10,7 @@ use paper::job::Begun;
 use paper::sizes::Sizes;
 
 // Where the scan goes: to a slot that is named, or to the lowest empty one.
-#[derive(Drop)]
+#[derive(Clone, Copy)]
 pub enum Goal {
     Slot(usize),
     LowestEmpty,

@@ -1,4 +1,6 @@
 //! Blank, and a save, keep or clear, record by record: 01's calls that change a file. Each is a thin one over an inner function, whose contract is the plain equation.
+#![tactic(auto)]
+
 ghost use Rattle.std.specs.Prelude.{◌≡◌};
 ghost use Rattle.paper.specs.Refusals.{taken_says, step_says};
 ghost use Rattle.paper.specs.Store.{blank_of, blank_file, save_of, keep_of, clear_of};

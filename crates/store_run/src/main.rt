@@ -1,95 +1,99 @@
 //! The run of 01: a blank file, three saves, the list, a save into the records that the third of them left free, and one that finds no room.
+#![tactic(auto)]
+
 use paper::answer::Taken;
 use paper::job::{Job, Step};
 use paper::refusal::Refusal;
+use std::io;
 
-fn number(n: usize) {
-    io::write_all(1, b" ");
-    io::print_decimal(1, n as u64);
+fn number(rt: &impl Print, n: usize) -> io::Result<()> {
+    print!(rt; " {n}")
 }
 
-fn refused(r: Refusal) {
-    io::write_all(1, b"refused");
-    number(r.number());
-    number(r.value());
+fn refused(rt: &impl Print, r: Refusal) -> io::Result<()> {
+    print!(rt; "refused")?;
+    number(rt, r.number())?;
+    number(rt, r.value())
 }
 
-fn record_and_count(record: usize, count: usize) {
-    number(record);
-    io::write_all(1, b" count");
-    number(count);
+fn record_and_count(rt: &impl Print, record: usize, count: usize) -> io::Result<()> {
+    number(rt, record)?;
+    print!(rt; " count")?;
+    number(rt, count)
 }
 
 // Says what a step answered; whether the job goes on.
-fn goes_on(a: Step) -> bool {
+fn goes_on(rt: &impl Print, a: Step) -> io::Result<bool> {
     match a {
         Step::Wrote(r, n) => {
-            io::write_all(1, b"wrote");
-            record_and_count(r, n);
-            io::write_all(1, b"\n");
-            true
+            print!(rt; "wrote")?;
+            record_and_count(rt, r, n)?;
+            println!(rt)?;
+            Ok(true)
         }
         Step::Saved(r, n) => {
-            io::write_all(1, b"saved");
-            record_and_count(r, n);
-            io::write_all(1, b"\n");
-            false
+            print!(rt; "saved")?;
+            record_and_count(rt, r, n)?;
+            println!(rt)?;
+            Ok(false)
         }
         Step::Cleared(r, n) => {
-            io::write_all(1, b"cleared");
-            record_and_count(r, n);
-            io::write_all(1, b"\n");
-            false
+            print!(rt; "cleared")?;
+            record_and_count(rt, r, n)?;
+            println!(rt)?;
+            Ok(false)
         }
         Step::Refused(r) => {
-            refused(r);
-            io::write_all(1, b"\n");
-            false
+            refused(rt, r)?;
+            println!(rt)?;
+            Ok(false)
         }
     }
 }
 
-fn begins(a: Taken) -> bool {
+fn begins(rt: &impl Print, a: Taken) -> io::Result<bool> {
     match a {
-        Taken::Accepted => true,
+        Taken::Accepted => Ok(true),
         Taken::Refused(r) => {
-            refused(r);
-            io::write_all(1, b"\n");
-            false
+            refused(rt, r)?;
+            println!(rt)?;
+            Ok(false)
         }
     }
 }
 
 // Steps a job until it is confirmed or refused; no job of this run has ten steps.
-fn run(file: &mut [u8], scan: &[u8], job: Job) {
+fn run(rt: &impl Print, file: &mut [u8], scan: &[u8], job: Job) -> io::Result<()> {
     let mut j = job;
-    let mut i: usize = 0;
-    while i < 10 {
-        let s = store::step(file, scan, j);
-        let a = s.answer;
-        let next = s.job;
-        if !goes_on(a) {
-            return;
+    for _ in 0..10 {
+        let s = store::step(&mut *file, scan, j);
+        if !goes_on(rt, s.answer)? {
+            return Ok(());
         }
-        j = next;
-        i += 1;
+        j = s.job;
     }
+    Ok(())
 }
 
-fn save(file: &mut [u8], slot: usize, bytes: [u8; 1024], size: usize) {
-    io::write_all(1, b"save");
-    number(size);
-    io::write_all(1, b" bytes to slot");
-    number(slot);
-    io::write_all(1, b"\n");
+fn save(
+    rt: &impl Print,
+    file: &mut [u8],
+    slot: usize,
+    bytes: [u8; 1024],
+    size: usize,
+) -> io::Result<()> {
+    print!(rt; "save")?;
+    number(rt, size)?;
+    print!(rt; " bytes to slot")?;
+    number(rt, slot)?;
+    println!(rt)?;
     let scan = lent::part::part(&bytes, 0, size);
     let about = [5u8; 54];
     let b = store::save(&*file, slot, scan, &about);
-    let a = b.answer;
-    let j = b.job;
-    if begins(a) {
-        run(file, scan, j);
+    if begins(rt, b.answer)? {
+        run(rt, file, scan, b.job)?;
     }
+    Ok(())
 }
 
 // A scan whose first 256 bytes are preamble and classes: 13 classes, at words 5, 21, 22, .. 32, and HEADLEN 256. `high` is the upper half of DATALEN.
@@ -110,25 +114,25 @@ fn scan_of(high: u32) -> [u8; 1024] {
 }
 
 // What the lister prints of the file.
-fn list(file: &[u8]) {
+fn list(rt: &impl Print, file: &[u8]) -> io::Result<()> {
     let mut out = [0u8; 90000];
     let n = listing::printed(file, &mut out);
-    io::write_all(1, lent::part::part(&out, 0, n));
+    rt.write_all(lent::part::part(&out, 0, n))
 }
 
-fn main() {
+fn main(rt: HostRuntime) -> io::Result<()> {
     let mut file = [9u8; 4096];
-    if begins(store::blank(&mut file, 3, 512, 64)) {
-        io::write_all(1, b"blank\n");
+    if begins(&rt, store::blank(&mut file, 3, 512, 64))? {
+        println!(rt; "blank")?;
     }
     // DATALEN 744, 256 and 768.
     let a = scan_of(1082605568);
     let b = scan_of(1081081856);
     let c = scan_of(1082654720);
-    save(&mut file, 1, a, 1000);
-    save(&mut file, 9, b, 512);
-    save(&mut file, 1, a, 1000);
-    list(&file);
-    save(&mut file, 2, c, 1024);
-    save(&mut file, 3, b, 512);
+    save(&rt, &mut file, 1, a, 1000)?;
+    save(&rt, &mut file, 9, b, 512)?;
+    save(&rt, &mut file, 1, a, 1000)?;
+    list(&rt, &file)?;
+    save(&rt, &mut file, 2, c, 1024)?;
+    save(&rt, &mut file, 3, b, 512)
 }

@@ -1,4 +1,6 @@
 //! The used number: the highest slot with a scan, looked for from the top down and no further than it has to be.
+#![tactic(auto)]
+
 ghost use Rattle.std.specs.Prelude.{◌≡◌, true, ◌+◌, ◌≤◌, max};
 ghost use Rattle.paper.specs.Sizes.{capacity_of};
 ghost use Rattle.paper.specs.Index.{Booted};

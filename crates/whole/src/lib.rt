@@ -1,9 +1,11 @@
 //! A length as read, from the 64 bits of a double, by integer operations alone.
+#![tactic(auto)]
+
 ghost use Rattle.std.specs.Prelude.{◌≡◌};
 ghost use Rattle.whole.specs.Length.{length_of};
 ghost use Rattle.whole.specs.Number.{up_to, whole_of};
 
-#[derive(Drop)]
+#[derive(Clone, Copy)]
 pub enum Whole {
     Is(usize),
     Not,

@@ -64,6 +64,7 @@ unsafe extern "C" fn not_finished(_: Link, _: *const u32, _: usize) -> Opened {
 /// The calls of a shared object. An earlier library may answer with fewer fields: it is given memory for all of today's.
 /// Of what it answers `why`, `done` and `first` are looked at, which stand where they always did. Its job goes back to it
 /// byte for byte as it came, and it takes of that as many bytes as its own job has; so a shorter job does no harm.
+#[expect(clippy::missing_transmute_annotations)] // the field that a call goes to says which it is
 fn load(path: &str) -> Calls {
     // SAFETY: the library's own beginnings do nothing.
     let library = unsafe { dlopen(words(path).as_ptr(), RTLD_NOW | RTLD_LOCAL) };
@@ -206,6 +207,7 @@ mod tests {
         let save = black_box(save::<NUMBERS> as *const ());
         let step = black_box(step::<NUMBERS> as *const ());
         // SAFETY: the answer is written to memory for a longer one, and of the longer job the first bytes are taken.
+        #[expect(clippy::missing_transmute_annotations)]
         let calls = unsafe { Calls { save: transmute(save), step: transmute(step), ..plain::calls() } };
         let order = Order::Rising;
         let plan = Plan { slots: 8, m: M, used: 1, run: 1, gap: 0, order, room: 8, form: Form::Current };

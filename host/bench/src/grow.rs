@@ -15,6 +15,7 @@ const SLOTS: [usize; 5] = [256, 512, 1024, 2048, 4096];
 const LONG: Call = Call::BeginSave(65_536);
 
 /// One line of growth: what, and the time of each size in microseconds.
+#[derive(Debug)]
 pub struct Growth {
     pub what: String,
     pub by: &'static str,
@@ -39,15 +40,23 @@ impl Growth {
     }
 }
 
-/// The least times of a call on each of the plans, which have their turns one after the other.
-fn times(calls: &Calls, call: Call, plans: &[Plan], budget: Duration) -> Vec<f64> {
-    let mut stages: Vec<Stage> = plans.iter().map(|plan| Stage::new(File::new(*plan), call)).collect();
+/// The least times of each kind of call on each of the plans, which have their turns one after the other: what slows the
+/// machine for a while meets them all, also where two of the times are to be subtracted.
+fn times<const KINDS: usize>(
+    calls: &Calls,
+    kinds: [Call; KINDS],
+    plans: &[Plan],
+    budget: Duration,
+) -> [Vec<f64>; KINDS] {
+    let each = |call: Call| plans.iter().map(move |plan| (call, Stage::new(File::new(*plan), call)));
+    let mut stages: Vec<(Call, Stage)> = kinds.into_iter().flat_map(each).collect();
     let mut contenders: Vec<Contender> =
-        stages.iter_mut().map(|stage| turns(move || stage.make(calls, call))).collect();
-    contest(&mut contenders, budget)
+        stages.iter_mut().map(|(call, stage)| turns(move || stage.make(calls, *call))).collect();
+    let least = contest(&mut contenders, budget * KINDS as u32);
+    std::array::from_fn(|kind| least[kind * plans.len()..][..plans.len()].to_vec())
 }
 
-/// The same of the decoding pass.
+/// The least times of the decoding pass.
 fn decoding(plans: &[Plan], budget: Duration) -> Vec<f64> {
     let mut files: Vec<File> = plans.iter().map(|plan| File::new(*plan)).collect();
     let mut contenders: Vec<Contender> = files
@@ -73,12 +82,11 @@ fn lines(who: &str, calls: &Calls, plans: &[Plan], by: &'static str, budget: Dur
         sizes: sizes.clone(),
         times,
     };
-    let open = times(calls, Call::Open, plans, budget);
-    let list = times(calls, Call::List, plans, budget);
     if form == Form::Old {
+        let [open, list] = times(calls, [Call::Open, Call::List], plans, budget);
         return vec![line("open", open), line("list", list)];
     }
-    let begin = times(calls, LONG, plans, budget);
+    let [open, list, begin] = times(calls, [Call::Open, Call::List, LONG], plans, budget);
     let place = begin.iter().zip(&open).map(|(begin, open)| begin - open).collect();
     vec![line("open", open), line("list", list), line("save's beginning", begin), line("free place", place)]
 }
@@ -120,7 +128,7 @@ pub fn of_find(who: &str, calls: &Calls, budget: Duration) -> Growth {
     let none = Plan { slots: 8, m: M, used: 0, run: 1, gap: 0, order: Order::Rising, room: 0, form: Form::Current };
     let plans = SLOTS.map(|size| Plan { room: 16 * size, ..none });
     let sizes = plans.iter().map(|plan| plan.room).collect();
-    let times = times(calls, Call::Find(Fill::Broken), &plans, budget);
+    let [times] = times(calls, [Call::Find(Fill::Broken)], &plans, budget);
     Growth { what: format!("{who}: find"), by: "records", sizes, times }
 }
 

@@ -46,7 +46,7 @@ fn read(words: &[String]) -> Option<(What, Options)> {
         "plain" => What::Calls(plain::calls()),
         "wrong" => {
             let number: u32 = words.next()?.parse().ok()?;
-            What::Calls(plain::wrong_lines().into_iter().find(|wrong| wrong.number == number)?.calls)
+            What::Calls(plain::wrong_lines().into_iter().find(|wrong| wrong.number == number)?.calls())
         }
         "record" => What::Record(words.next()?.to_string()),
         _ => return None,

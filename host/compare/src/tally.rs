@@ -10,7 +10,7 @@ use crate::used::Used;
 use std::fmt;
 
 /// The numbers of refusals, and 0.
-const NUMBERS: usize = 21;
+const NUMBERS: usize = face::refused::HIGHEST as usize + 1;
 
 /// What an old file can be answered with, by what is done with it: 0 is that the call is accepted.
 const OLD: [(&str, &[usize]); 3] = [

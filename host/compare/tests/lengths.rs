@@ -36,7 +36,7 @@ fn wrong_lengths_are_noticed() {
     let wrong: Vec<_> = wrong.iter().filter(|wrong| about.iter().any(|words| wrong.what.starts_with(words))).collect();
     assert_eq!(wrong.len(), 6);
     for wrong in wrong {
-        let noticed = lengths(&wrong.calls, seed).err();
+        let noticed = lengths(&wrong.calls(), seed).err();
         println!("  {:>3} {}: {}", wrong.number, wrong.what, noticed.as_deref().unwrap_or("not noticed"));
         assert!(noticed.is_some(), "{}", wrong.what);
     }

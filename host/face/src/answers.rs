@@ -4,7 +4,7 @@
 #[repr(C)]
 #[derive(Clone, Copy, Debug, PartialEq, Eq)]
 pub struct Refusal {
-    /// 1 to 20, or 0.
+    /// 1 to [`refused::HIGHEST`](crate::refused::HIGHEST), or 0.
     pub number: u32,
     /// The slot (6, 7, 8) or the reason (11), else 0.
     pub value: u32,

@@ -1,5 +1,13 @@
 //! The header's constants, under its names: one is written `SDD_NO_ROOM` there and `refused::NO_ROOM` here.
 
+/// The highest number of a refusal, as a number and in the words that help and pages have.
+macro_rules! highest {
+    ($number:literal) => {
+        pub const HIGHEST: u32 = $number;
+        pub const RANGE: &str = concat!("1 to ", $number);
+    };
+}
+
 /// Why a call was refused: the paper's numbers.
 #[allow(missing_docs)] // the names say it, and the header says more
 pub mod refused {
@@ -23,6 +31,7 @@ pub mod refused {
     pub const NOT_VERSION_ONE: u32 = 18;
     pub const NOT_CONVERTIBLE: u32 = 19;
     pub const NOT_ALL_CAME: u32 = 20;
+    highest!(20);
 }
 
 /// What a step did.

@@ -53,12 +53,10 @@ pub fn counts(name: &str, operands: &str) -> Option<&'static str> {
         Some("x87")
     } else if CONTROL.contains(&name) || begins(&PAIRS) {
         Some("floating")
-    } else if !REGISTERS.iter().any(|register| operands.contains(register)) {
-        None
-    } else if begins(&[MOVE, INTEGERS]) || is_one_of(name, &BITS) {
-        None
     } else {
-        Some("on no list")
+        let is_on_floats = REGISTERS.iter().any(|register| operands.contains(register));
+        let only_moves = begins(&[MOVE, INTEGERS]) || is_one_of(name, &BITS);
+        (is_on_floats && !only_moves).then_some("on no list")
     }
 }
 

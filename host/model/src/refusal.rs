@@ -3,7 +3,7 @@
 /// A refusal's number, with its slot or reason where the table shows one, else 0.
 #[derive(Clone, Copy, Debug, PartialEq, Eq)]
 pub struct Refusal {
-    /// 1 to 20.
+    /// The paper's number.
     pub number: u32,
     /// A slot (6, 7, 8) or a reason (11).
     pub value: u32,

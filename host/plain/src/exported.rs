@@ -7,7 +7,7 @@ use face::{Answer as YesOrNo, Begun, Calls, Entry, Job, Link, Linked, Listed, Op
 use std::slice::{from_raw_parts, from_raw_parts_mut};
 
 /// The table of one copy.
-pub fn calls<const X: u32>() -> Calls {
+pub fn calls<const X: bool>() -> Calls {
     Calls {
         open: open::<X>,
         list: list::<X>,
@@ -61,52 +61,52 @@ fn begun(answer: Answer<Job>) -> Begun {
     }
 }
 
-fn opened<const X: u32>(answer: Answer<Opened>) -> Opened {
+fn opened<const X: bool>(answer: Answer<Opened>) -> Opened {
     match answer {
         Ok(opened) => opened,
         Err(why) => Opened { why, version: or::<X, _>(123, 0, 1), ..Opened::ZEROS },
     }
 }
 
-unsafe extern "C" fn open<const X: u32>(file: *const u8, file_len: usize) -> Opened {
+unsafe extern "C" fn open<const X: bool>(file: *const u8, file_len: usize) -> Opened {
     opened::<X>(look::open::<X>(unsafe { lent(file, file_len) }))
 }
 
-unsafe extern "C" fn list<const X: u32>(file: *const u8, file_len: usize, out: *mut u32, out_len: usize) -> Listed {
+unsafe extern "C" fn list<const X: bool>(file: *const u8, file_len: usize, out: *mut u32, out_len: usize) -> Listed {
     match look::list::<X>(unsafe { lent(file, file_len) }, unsafe { lent_mut(out, out_len) }) {
         Ok(scans) => Listed { why: Refusal::NONE, scans },
         Err(why) => Listed { why, scans: 0 },
     }
 }
 
-unsafe extern "C" fn entry_at<const X: u32>(file: *const u8, file_len: usize, slot: u64) -> Entry {
+unsafe extern "C" fn entry_at<const X: bool>(file: *const u8, file_len: usize, slot: u64) -> Entry {
     match look::entry::<X>(unsafe { lent(file, file_len) }, slot) {
         Ok(entry) => entry,
         Err(why) => Entry { why, ..Entry::ZEROS },
     }
 }
 
-unsafe extern "C" fn show<const X: u32>(file: *const u8, file_len: usize, slot: u64) -> Span {
+unsafe extern "C" fn show<const X: bool>(file: *const u8, file_len: usize, slot: u64) -> Span {
     span(look::show::<X>(unsafe { lent(file, file_len) }, slot))
 }
 
-unsafe extern "C" fn read<const X: u32>(file: *const u8, file_len: usize, slot: u64) -> Span {
+unsafe extern "C" fn read<const X: bool>(file: *const u8, file_len: usize, slot: u64) -> Span {
     span(look::read::<X>(unsafe { lent(file, file_len) }, slot))
 }
 
-unsafe extern "C" fn class<const X: u32>(run: *const u8, run_len: usize, number: u64) -> Span {
+unsafe extern "C" fn class<const X: bool>(run: *const u8, run_len: usize, number: u64) -> Span {
     span(look::class::<X>(unsafe { lent(run, run_len) }, number))
 }
 
-unsafe extern "C" fn data<const X: u32>(run: *const u8, run_len: usize) -> Span {
+unsafe extern "C" fn data<const X: bool>(run: *const u8, run_len: usize) -> Span {
     span(look::data::<X>(unsafe { lent(run, run_len) }))
 }
 
-unsafe extern "C" fn blank<const X: u32>(file: *mut u8, file_len: usize, n: u64, l: u64, m: u64) -> Refusal {
+unsafe extern "C" fn blank<const X: bool>(file: *mut u8, file_len: usize, n: u64, l: u64, m: u64) -> Refusal {
     refusal(store::blank::<X>(unsafe { lent_mut(file, file_len) }, n, l, m))
 }
 
-unsafe extern "C" fn save<const X: u32>(
+unsafe extern "C" fn save<const X: bool>(
     file: *const u8,
     file_len: usize,
     slot: u64,
@@ -118,7 +118,7 @@ unsafe extern "C" fn save<const X: u32>(
     begun(store::save::<X>(unsafe { lent(file, file_len) }, slot, unsafe { lent(scan, scan_len) }, about))
 }
 
-unsafe extern "C" fn keep<const X: u32>(
+unsafe extern "C" fn keep<const X: bool>(
     file: *const u8,
     file_len: usize,
     scan: *const u8,
@@ -129,11 +129,11 @@ unsafe extern "C" fn keep<const X: u32>(
     begun(store::keep::<X>(unsafe { lent(file, file_len) }, unsafe { lent(scan, scan_len) }, about))
 }
 
-unsafe extern "C" fn clear<const X: u32>(file: *const u8, file_len: usize, slot: u64) -> Begun {
+unsafe extern "C" fn clear<const X: bool>(file: *const u8, file_len: usize, slot: u64) -> Begun {
     begun(store::clear::<X>(unsafe { lent(file, file_len) }, slot))
 }
 
-unsafe extern "C" fn step<const X: u32>(
+unsafe extern "C" fn step<const X: bool>(
     file: *mut u8,
     file_len: usize,
     scan: *const u8,
@@ -143,7 +143,7 @@ unsafe extern "C" fn step<const X: u32>(
     store::step::<X>(unsafe { lent_mut(file, file_len) }, unsafe { lent(scan, scan_len) }, &job)
 }
 
-unsafe extern "C" fn to_current<const X: u32>(
+unsafe extern "C" fn to_current<const X: bool>(
     file: *const u8,
     file_len: usize,
     out: *mut u8,
@@ -152,32 +152,32 @@ unsafe extern "C" fn to_current<const X: u32>(
     refusal(convert::to_current::<X>(unsafe { lent(file, file_len) }, unsafe { lent_mut(out, out_len) }))
 }
 
-unsafe extern "C" fn to_old<const X: u32>(file: *const u8, file_len: usize, out: *mut u8, out_len: usize) -> Refusal {
+unsafe extern "C" fn to_old<const X: bool>(file: *const u8, file_len: usize, out: *mut u8, out_len: usize) -> Refusal {
     refusal(convert::to_old::<X>(unsafe { lent(file, file_len) }, unsafe { lent_mut(out, out_len) }))
 }
 
-unsafe extern "C" fn gaps_zero<const X: u32>(file: *const u8, file_len: usize) -> YesOrNo {
+unsafe extern "C" fn gaps_zero<const X: bool>(file: *const u8, file_len: usize) -> YesOrNo {
     match gaps::gaps_zero::<X>(unsafe { lent(file, file_len) }) {
         Ok(yes) => YesOrNo { why: Refusal::NONE, yes: u64::from(yes) },
         Err(why) => YesOrNo { why, yes: or::<X, _>(270, 0, 1) },
     }
 }
 
-unsafe extern "C" fn find<const X: u32>(file: *const u8, file_len: usize, out: *mut u64, out_len: usize) -> Listed {
+unsafe extern "C" fn find<const X: bool>(file: *const u8, file_len: usize, out: *mut u64, out_len: usize) -> Listed {
     match find::find::<X>(unsafe { lent(file, file_len) }, unsafe { lent_mut(out, out_len) }) {
         Ok(scans) => Listed { why: Refusal::NONE, scans },
         Err(why) => Listed { why, scans: or::<X, _>(295, 0, 1) },
     }
 }
 
-unsafe extern "C" fn link_begin<const X: u32>(length: u64, row: *mut u32, row_len: usize) -> Linked {
+unsafe extern "C" fn link_begin<const X: bool>(length: u64, row: *mut u32, row_len: usize) -> Linked {
     match link::begin::<X>(length, unsafe { lent_mut(row, row_len) }) {
         Ok(link) => Linked { why: Refusal::NONE, link },
         Err(why) => Linked { why, link: Link { length: or::<X, _>(312, 0, length), ..Link::ZEROS } },
     }
 }
 
-unsafe extern "C" fn link_take<const X: u32>(
+unsafe extern "C" fn link_take<const X: bool>(
     mut link: Link,
     piece: *const u8,
     piece_len: usize,
@@ -189,6 +189,6 @@ unsafe extern "C" fn link_take<const X: u32>(
     Linked { why, link }
 }
 
-unsafe extern "C" fn link_finish<const X: u32>(link: Link, row: *const u32, row_len: usize) -> Opened {
+unsafe extern "C" fn link_finish<const X: bool>(link: Link, row: *const u32, row_len: usize) -> Opened {
     opened::<X>(link::finish::<X>(&link, unsafe { lent(row, row_len) }))
 }

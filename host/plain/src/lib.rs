@@ -5,8 +5,9 @@
 //! what the proved library costs, and, with one line wrong, as the trial of
 //! the comparison, which has to notice.
 //!
-//! Every function has a parameter `X`, the number of the line that is wrong; 0
-//! is none. It is a constant, so the right copy carries no trace of the others.
+//! Every function has a parameter `X`: whether it is of the copy that may have a
+//! wrong line. Which one is asked at run time, so that all of them are compiled
+//! once. In the right copy the answer is a constant, and no trace of them is left.
 //!
 //! From the ground up, each knows only those before it: `ground`, `rules`,
 //! `calls`, `exported`, `wrong`.
@@ -21,5 +22,5 @@ pub use wrong::{Wrong, wrong_lines};
 
 /// The stand-in with nothing wrong.
 pub fn calls() -> face::Calls {
-    exported::calls::<0>()
+    exported::calls::<false>()
 }

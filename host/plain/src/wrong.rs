@@ -1,23 +1,31 @@
-//! The wrong lines: for each number what is wrong in the copy that has it.
+//! The wrong lines: for each number what is wrong where it is chosen.
 
 use crate::exported;
+use crate::ground::line::choose;
 use face::Calls;
 
-/// A copy of the stand-in with one line wrong.
+/// A line that can be made wrong.
 pub struct Wrong {
     /// The line's number.
     pub number: u32,
     /// What is wrong, in words.
     pub what: &'static str,
-    /// The copy's calls.
-    pub calls: Calls,
+}
+
+impl Wrong {
+    /// The calls with this line wrong. There is one copy for all lines, which asks at each of them whether it is the one: so these are wrong in
+    /// this way only until another line is chosen.
+    pub fn calls(&self) -> Calls {
+        choose(self.number);
+        exported::calls::<true>()
+    }
 }
 
 macro_rules! wrong_lines {
     ($($number:literal $what:literal)*) => {
-        /// Every copy with one line wrong.
+        /// Every line that can be made wrong.
         pub fn wrong_lines() -> Vec<Wrong> {
-            vec![$(Wrong { number: $number, what: $what, calls: exported::calls::<$number>() }),*]
+            vec![$(Wrong { number: $number, what: $what }),*]
         }
     };
 }

@@ -17,6 +17,16 @@ pub fn scan(len: usize, fill: u8) -> Vec<u8> {
     scan
 }
 
+/// Puts an object, a scan number and a date into the header of a sample, where source document 003 has them: SCAN is the
+/// third word of class 1, OBJECT its ninth and tenth, UTDATE, as YYYY.MMDD, the first of class 3.
+pub fn put_header(scan: &mut [u8], object: &[u8; 16], number: f64, date: f64) {
+    let start = |class: usize| (usize::from(scan[2 * class + 1]) - 1) * 8;
+    let (basic, observing) = (start(1), start(3));
+    scan[basic + 16..][..8].copy_from_slice(&number.to_be_bytes());
+    scan[basic + 64..][..16].copy_from_slice(object);
+    scan[observing..][..8].copy_from_slice(&date.to_be_bytes());
+}
+
 /// A scan in an old file.
 pub struct OldScan<'a> {
     /// Its slot, from 1 on.

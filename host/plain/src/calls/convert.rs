@@ -3,7 +3,7 @@
 //! As with what walks over entries elsewhere, each way is compiled by itself: `OLD` is the form that the file has.
 
 use crate::ground::bytes::{be16, be32, put16, put32, widened};
-use crate::ground::line::or;
+use crate::ground::line::{line, or};
 use crate::rules::boot::{Answer, Sizes, bootstrap, changeable, refuse};
 use crate::rules::index::{Run, judge, listed};
 
@@ -16,21 +16,21 @@ const MOST_OLD_COUNTER: u64 = u16::MAX as u64;
 /// The bytes of an entry that say something, in either form; an entry has at least so many.
 const TOLD: usize = 64;
 
-pub fn to_current<const X: u32>(file: &[u8], out: &mut [u8]) -> Answer<()> {
-    if X == 132 {
+pub fn to_current<const X: bool>(file: &[u8], out: &mut [u8]) -> Answer<()> {
+    if line::<X>() == 132 {
         changeable::<X>(file)?;
     }
     convert::<X, true>(file, out)
 }
 
-pub fn to_old<const X: u32>(file: &[u8], out: &mut [u8]) -> Answer<()> {
+pub fn to_old<const X: bool>(file: &[u8], out: &mut [u8]) -> Answer<()> {
     convert::<X, false>(file, out)
 }
 
-fn convert<const X: u32, const OLD: bool>(file: &[u8], out: &mut [u8]) -> Answer<()> {
+fn convert<const X: bool, const OLD: bool>(file: &[u8], out: &mut [u8]) -> Answer<()> {
     let judged = judged::<X, OLD>(file, out.len());
     if let Err(why) = judged
-        && ((X == 169 && why.number == 17) || (X == 170 && why.number == 19))
+        && ((line::<X>() == 169 && why.number == 17) || (line::<X>() == 170 && why.number == 19))
     {
         let end = out.len().min(512);
         out[..end].fill(0);
@@ -41,7 +41,7 @@ fn convert<const X: u32, const OLD: bool>(file: &[u8], out: &mut [u8]) -> Answer
         return Ok(());
     }
     let end = records(&sizes);
-    if X == 168 && out.len() > end {
+    if line::<X>() == 168 && out.len() > end {
         out[end] = 0;
     }
     write::<X, OLD>(file, &sizes, &mut out[..end]);
@@ -54,12 +54,12 @@ fn records(sizes: &Sizes) -> usize {
 }
 
 /// The sizes of a file that can be converted: open's own refusals, 17 and 19.
-fn judged<const X: u32, const OLD: bool>(file: &[u8], out_len: usize) -> Answer<Sizes> {
-    if X == 130 && out_len < records(&bootstrap::<X>(file)?) {
+fn judged<const X: bool, const OLD: bool>(file: &[u8], out_len: usize) -> Answer<Sizes> {
+    if line::<X>() == 130 && out_len < records(&bootstrap::<X>(file)?) {
         return refuse(17, 0);
     }
-    let sizes = if X == 131 { bootstrap::<X>(file)? } else { judge::<X>(file)?.sizes };
-    if (X == 127 && !goes::<X, OLD>(file, &sizes)) || (X == 128 && sizes.old != OLD) {
+    let sizes = if line::<X>() == 131 { bootstrap::<X>(file)? } else { judge::<X>(file)?.sizes };
+    if (line::<X>() == 127 && !goes::<X, OLD>(file, &sizes)) || (line::<X>() == 128 && sizes.old != OLD) {
         return refuse(19, 0);
     }
     if out_len < records(&sizes) + or::<X, _>(129, 0, 1) {
@@ -69,37 +69,37 @@ fn judged<const X: u32, const OLD: bool>(file: &[u8], out_len: usize) -> Answer<
 }
 
 /// Whether the file has the form `OLD`, and the other one can say what it says.
-fn goes<const X: u32, const OLD: bool>(file: &[u8], sizes: &Sizes) -> bool {
+fn goes<const X: bool, const OLD: bool>(file: &[u8], sizes: &Sizes) -> bool {
     if sizes.old != OLD {
-        return X == if OLD { 133 } else { 134 };
+        return line::<X>() == if OLD { 133 } else { 134 };
     }
     if OLD { is_version_one::<X>(file, sizes) } else { fits_old::<X>(file, sizes) }
 }
 
 /// Whether every scan of an old file is SDD version 1.
-fn is_version_one<const X: u32>(file: &[u8], sizes: &Sizes) -> bool {
+fn is_version_one<const X: bool>(file: &[u8], sizes: &Sizes) -> bool {
     let version_one = |entry: &[u8]| {
         let magic = or::<X, _>(145, be16(entry, 4), be16(entry, 4) & 0xff);
-        magic == VERSION_ONE || (X == 144 && magic == 1)
+        magic == VERSION_ONE || (line::<X>() == 144 && magic == 1)
     };
-    let empty = |entry: &[u8]| Run::of::<X, true>(entry).is_empty::<X>() && X != 146;
+    let empty = |entry: &[u8]| Run::of::<X, true>(entry).is_empty::<X>() && line::<X>() != 146;
     used(file, sizes).all(|entry| empty(entry) || version_one(entry))
-        && (X != 147 || (sizes.u + 1..=sizes.capacity()).all(|slot| version_one(&file[sizes.home(slot)..])))
+        && (line::<X>() != 147 || (sizes.u + 1..=sizes.capacity()).all(|slot| version_one(&file[sizes.home(slot)..])))
 }
 
 /// Whether the old form has room for the numbers of a current file, and for its type.
-fn fits_old<const X: u32>(file: &[u8], sizes: &Sizes) -> bool {
+fn fits_old<const X: bool>(file: &[u8], sizes: &Sizes) -> bool {
     // a scan's first record is no higher than its last
-    let most = match X {
+    let most = match line::<X>() {
         139 => MOST_OLD + 1,
         140 => MOST_OLD - 1,
         _ => MOST_OLD,
     };
-    let fits = |run: Run| run.last <= most || (X == 141 && run.first == MOST_OLD + 1);
+    let fits = |run: Run| run.last <= most || (line::<X>() == 141 && run.first == MOST_OLD + 1);
     let data = or::<X, _>(138, sizes.d, sizes.n + sizes.d);
-    let most_data = if X == 137 { MOST_OLD - 1 } else { MOST_OLD + or::<X, _>(136, 0, 1) };
-    let most_counter = if X == 143 { MOST_OLD_COUNTER - 1 } else { MOST_OLD_COUNTER + or::<X, _>(142, 0, 1) };
-    (sizes.kind == 0 || X == 135)
+    let most_data = if line::<X>() == 137 { MOST_OLD - 1 } else { MOST_OLD + or::<X, _>(136, 0, 1) };
+    let most_counter = if line::<X>() == 143 { MOST_OLD_COUNTER - 1 } else { MOST_OLD_COUNTER + or::<X, _>(142, 0, 1) };
+    (sizes.kind == 0 || line::<X>() == 135)
         && data <= most_data
         && sizes.counter <= most_counter
         && listed::<X, false>(file, sizes).all(|(_, run)| fits(run))
@@ -111,9 +111,9 @@ fn used<'a>(file: &'a [u8], sizes: &Sizes) -> impl Iterator<Item = &'a [u8]> {
 }
 
 /// N, D, L, M, U and counter, which both forms begin with.
-fn numbers<const X: u32, const OLD: bool>(file: &[u8], sizes: &Sizes) -> [u64; 6] {
+fn numbers<const X: bool, const OLD: bool>(file: &[u8], sizes: &Sizes) -> [u64; 6] {
     let Sizes { n, mut d, l, m, mut u, mut counter, .. } = *sizes;
-    match X {
+    match line::<X>() {
         162 => counter = 0,
         163 if OLD => counter = widened(counter as i16),
         164 => u = listed::<X, OLD>(file, sizes).map(|(slot, _)| slot).last().unwrap_or(0),
@@ -125,9 +125,9 @@ fn numbers<const X: u32, const OLD: bool>(file: &[u8], sizes: &Sizes) -> [u64; 6
 }
 
 /// Record 1: the words of the other form, and zeros.
-fn write_first<const X: u32, const OLD: bool>(file: &[u8], sizes: &Sizes, record: &mut [u8]) {
+fn write_first<const X: bool, const OLD: bool>(file: &[u8], sizes: &Sizes, record: &mut [u8]) {
     record.fill(0);
-    if X == 150 {
+    if line::<X>() == 150 {
         record[32..].copy_from_slice(&file[32..sizes.l as usize]);
     }
     let numbers = numbers::<X, OLD>(file, sizes).into_iter().enumerate();
@@ -136,7 +136,7 @@ fn write_first<const X: u32, const OLD: bool>(file: &[u8], sizes: &Sizes, record
         put32(record, 28, or::<X, _>(167, 1, 0));
     } else {
         numbers.for_each(|(i, number)| put16(record, 2 * i, number as u16));
-        if X == 171 {
+        if line::<X>() == 171 {
             put32(record, 28, 1);
         }
     }
@@ -146,15 +146,15 @@ fn write_first<const X: u32, const OLD: bool>(file: &[u8], sizes: &Sizes, record
 const LONG: u64 = 256;
 
 /// Writes all N records: record 1, the entries in use in the other form, zeros for the rest.
-fn write<const X: u32, const OLD: bool>(file: &[u8], sizes: &Sizes, out: &mut [u8]) {
+fn write<const X: bool, const OLD: bool>(file: &[u8], sizes: &Sizes, out: &mut [u8]) {
     let (record, index) = out.split_at_mut(sizes.l as usize);
     write_first::<X, OLD>(file, sizes, record);
     // what lies above U is empty
     let (entries, rest) = index.split_at_mut((sizes.u * sizes.m) as usize);
-    if X != 153 {
+    if line::<X>() != 153 {
         rest.fill(0);
     }
-    let long = sizes.m >= LONG || X == 152;
+    let long = sizes.m >= LONG || line::<X>() == 152;
     if !long {
         entries.fill(0);
     }
@@ -165,12 +165,12 @@ fn write<const X: u32, const OLD: bool>(file: &[u8], sizes: &Sizes, out: &mut [u
                 if long {
                     padding.fill(0);
                 }
-                if X == 149 {
+                if line::<X>() == 149 {
                     padding.copy_from_slice(&from[TOLD..]);
                 }
             }
-            _ if X == 151 => to.copy_from_slice(from),
-            _ if long && X != 152 => to.fill(0),
+            _ if line::<X>() == 151 => to.copy_from_slice(from),
+            _ if long && line::<X>() != 152 => to.fill(0),
             _ => (),
         }
     }
@@ -178,13 +178,13 @@ fn write<const X: u32, const OLD: bool>(file: &[u8], sizes: &Sizes, out: &mut [u
 
 /// An entry as the other form has it.
 #[inline]
-fn put_other<const X: u32, const OLD: bool>(from: &[u8; TOLD], to: &mut [u8; TOLD]) {
+fn put_other<const X: bool, const OLD: bool>(from: &[u8; TOLD], to: &mut [u8; TOLD]) {
     if OLD { put_current::<X>(from, to) } else { put_old::<X>(from, to) }
 }
 
 /// An old entry as the current form has it. The numbers of one that is in range are not negative.
 #[inline]
-fn put_current<const X: u32>(from: &[u8; TOLD], to: &mut [u8; TOLD]) {
+fn put_current<const X: bool>(from: &[u8; TOLD], to: &mut [u8; TOLD]) {
     let both = be32(from, 0);
     let both = or::<X, _>(159, both, both.rotate_left(16));
     put32(to, 0, u64::from(both >> 16));
@@ -193,7 +193,7 @@ fn put_current<const X: u32>(from: &[u8; TOLD], to: &mut [u8; TOLD]) {
     let position = or::<X, _>(156, 6, 60);
     to[60..62].copy_from_slice(&from[position..position + 2]);
     to[62..].fill(0);
-    match X {
+    match line::<X>() {
         148 => to[62..].copy_from_slice(&from[62..]),
         154 => to[60..62].fill(0),
         _ => (),
@@ -202,10 +202,10 @@ fn put_current<const X: u32>(from: &[u8; TOLD], to: &mut [u8; TOLD]) {
 
 /// An entry of the current form, whose numbers fit, as the old form has it.
 #[inline]
-fn put_old<const X: u32>(from: &[u8; TOLD], to: &mut [u8; TOLD]) {
+fn put_old<const X: bool>(from: &[u8; TOLD], to: &mut [u8; TOLD]) {
     put16(to, or::<X, _>(160, 0, 2), be32(from, 0) as u16);
     put16(to, or::<X, _>(160, 2, 0), be32(from, 4) as u16);
-    let magic = match X {
+    let magic = match line::<X>() {
         157 => 0,
         158 => 1,
         _ => VERSION_ONE,
@@ -214,7 +214,7 @@ fn put_old<const X: u32>(from: &[u8; TOLD], to: &mut [u8; TOLD]) {
     to[6..8].copy_from_slice(&from[60..62]);
     put_fields::<X>(from, to);
     to[60..].fill(0);
-    match X {
+    match line::<X>() {
         148 => to[62..].copy_from_slice(&from[62..]),
         155 => to[6..8].fill(0),
         _ => (),
@@ -223,9 +223,9 @@ fn put_old<const X: u32>(from: &[u8; TOLD], to: &mut [u8; TOLD]) {
 
 /// What both forms have at the same place.
 #[inline]
-fn put_fields<const X: u32>(from: &[u8; TOLD], to: &mut [u8; TOLD]) {
+fn put_fields<const X: bool>(from: &[u8; TOLD], to: &mut [u8; TOLD]) {
     to[8..60].copy_from_slice(&from[8..60]);
-    if X == 161 {
+    if line::<X>() == 161 {
         to[59] = 0;
     }
 }

@@ -4,7 +4,7 @@
 //! are loaded as they stand, and only those that one of its two ends cuts are put together byte by byte.
 
 use crate::calls::look::opened;
-use crate::ground::line::or;
+use crate::ground::line::{line, or};
 use crate::rules::boot::{Answer, Sizes, bootstrap_of, refuse};
 use crate::rules::index::{Run, Runs, judge_index};
 use face::{Link, Opened};
@@ -19,7 +19,7 @@ type Pair = [u32; 2];
 
 /// What is lent, two by two; 17 where it is too short.
 #[inline]
-fn pairs<const X: u32>(row: &mut [u32], line: u32) -> Answer<&mut [Pair]> {
+fn pairs<const X: bool>(row: &mut [u32], line: u32) -> Answer<&mut [Pair]> {
     let wanted = or::<X, _>(line, ROW, row.len().clamp(ROW - 1, ROW));
     match row.get_mut(..wanted) {
         Some(row) => Ok(row.as_chunks_mut().0),
@@ -27,9 +27,9 @@ fn pairs<const X: u32>(row: &mut [u32], line: u32) -> Answer<&mut [Pair]> {
     }
 }
 
-pub fn begin<const X: u32>(length: u64, row: &mut [u32]) -> Answer<Link> {
+pub fn begin<const X: bool>(length: u64, row: &mut [u32]) -> Answer<Link> {
     pairs::<X>(row, 309)?;
-    match X {
+    match line::<X>() {
         320 => row[..ROW].fill(0),
         325 if row.len() > ROW => row[ROW] = 0,
         _ => (),
@@ -40,8 +40,8 @@ pub fn begin<const X: u32>(length: u64, row: &mut [u32]) -> Answer<Link> {
 /// Takes a piece; a link that is refused stays as it is. What is passed over, which most pieces of a file are, does not
 /// get past two comparisons.
 #[inline]
-pub fn take<const X: u32>(link: &mut Link, piece: &[u8], row: &mut [u32]) -> Answer<()> {
-    match X {
+pub fn take<const X: bool>(link: &mut Link, piece: &[u8], row: &mut [u32]) -> Answer<()> {
+    match line::<X>() {
         313 if row.len() < ROW => link.index_end = 0,
         319 if piece.is_empty() => link.came = link.came.wrapping_add(1),
         _ => (),
@@ -59,7 +59,7 @@ pub fn take<const X: u32>(link: &mut Link, piece: &[u8], row: &mut [u32]) -> Ans
 
 /// Takes what a piece has of the first 32 bytes; answers the rest of it.
 #[cold]
-fn take_boot<'a, const X: u32>(link: &mut Link, piece: &'a [u8]) -> &'a [u8] {
+fn take_boot<'a, const X: bool>(link: &mut Link, piece: &'a [u8]) -> &'a [u8] {
     let room = &mut link.boot[link.came as usize..];
     let (first, rest) = piece.split_at(piece.len().min(room.len()));
     room[..first.len()].copy_from_slice(first);
@@ -75,7 +75,7 @@ fn take_boot<'a, const X: u32>(link: &mut Link, piece: &'a [u8]) -> &'a [u8] {
 
 /// Takes what a piece has up to the end of the index.
 #[inline(never)]
-fn take_index<const X: u32>(link: &mut Link, piece: &[u8], pairs: &mut [Pair]) {
+fn take_index<const X: bool>(link: &mut Link, piece: &[u8], pairs: &mut [Pair]) {
     let from = link.came;
     let bytes = &piece[..piece.len().min((link.index_end - from) as usize)];
     link.came += or::<X, _>(306, bytes.len(), piece.len()) as u64;
@@ -92,7 +92,7 @@ fn take_index<const X: u32>(link: &mut Link, piece: &[u8], pairs: &mut [Pair]) {
     if bytes.is_empty() {
         return;
     }
-    if X == 315
+    if line::<X>() == 315
         && let Some(past) = pairs.get_mut(sizes.capacity() as usize)
     {
         past[0] = 0;
@@ -100,7 +100,7 @@ fn take_index<const X: u32>(link: &mut Link, piece: &[u8], pairs: &mut [Pair]) {
     // both numbers are of an index, and small
     let (slot, place) = (at as u32 / sizes.m as u32, at as u32 % sizes.m as u32);
     let (m, slot, place) = (sizes.m as usize, slot as usize, place as usize);
-    if sizes.old && X != 326 {
+    if sizes.old && line::<X>() != 326 {
         fill::<X, true>(m, slot, place, bytes, pairs)
     } else {
         fill::<X, false>(m, slot, place, bytes, pairs)
@@ -109,7 +109,7 @@ fn take_index<const X: u32>(link: &mut Link, piece: &[u8], pairs: &mut [Pair]) {
 
 /// Fills the pairs from bytes of the index, which begin at a place of the entry of slot `slot`, counted from 0.
 #[inline]
-fn fill<const X: u32, const OLD: bool>(m: usize, mut slot: usize, place: usize, bytes: &[u8], pairs: &mut [Pair]) {
+fn fill<const X: bool, const OLD: bool>(m: usize, mut slot: usize, place: usize, bytes: &[u8], pairs: &mut [Pair]) {
     let wide = 2 * width::<OLD>();
     let mut next = 0;
     if place > 0 {
@@ -128,7 +128,7 @@ fn fill<const X: u32, const OLD: bool>(m: usize, mut slot: usize, place: usize, 
     }
     // an entry of which too little has come
     if let (Some(rest), Some(pair)) = (bytes.get(next..), pairs.next())
-        && X != 298
+        && line::<X>() != 298
     {
         rest.iter().enumerate().for_each(|(place, byte)| shift::<X, OLD>(pair, place, *byte));
     }
@@ -141,7 +141,7 @@ const fn width<const OLD: bool>() -> usize {
 
 /// Both numbers of an entry.
 #[inline]
-fn whole<const X: u32, const OLD: bool>(told: &[u8]) -> Pair {
+fn whole<const X: bool, const OLD: bool>(told: &[u8]) -> Pair {
     let (first, last) = told.split_at(width::<OLD>());
     let number = |bytes: &[u8]| {
         if OLD {
@@ -155,10 +155,10 @@ fn whole<const X: u32, const OLD: bool>(told: &[u8]) -> Pair {
 
 /// Shifts an entry's byte at this place into the number that it is of.
 #[inline]
-fn shift<const X: u32, const OLD: bool>(pair: &mut Pair, place: usize, byte: u8) {
+fn shift<const X: bool, const OLD: bool>(pair: &mut Pair, place: usize, byte: u8) {
     let which = place / width::<OLD>();
     let number = &mut pair[or::<X, _>(308, which, 1 - which)];
-    let shifted = match X {
+    let shifted = match line::<X>() {
         299 => *number >> 8 | u32::from(byte) << (8 * width::<OLD>() - 8),
         302 if place.is_multiple_of(width::<OLD>()) => u32::from(byte),
         _ => *number << 8 | u32::from(byte),
@@ -168,14 +168,14 @@ fn shift<const X: u32, const OLD: bool>(pair: &mut Pair, place: usize, byte: u8)
 
 /// An old number as one of 32 bits.
 #[inline]
-fn widened<const X: u32>(line: u32, number: u16) -> u32 {
+fn widened<const X: bool>(line: u32, number: u16) -> u32 {
     or::<X, _>(line, i32::from(number as i16) as u32, u32::from(number))
 }
 
 /// The runs of a row.
-struct Filled<'a, const X: u32>(&'a [Pair]);
+struct Filled<'a, const X: bool>(&'a [Pair]);
 
-impl<const X: u32> Runs for Filled<'_, X> {
+impl<const X: bool> Runs for Filled<'_, X> {
     #[inline]
     fn between(&self, _: &Sizes, from: u64, to: u64) -> impl Iterator<Item = (u64, Run)> {
         let pairs = if from <= to { &self.0[from as usize - 1..to as usize] } else { &[] };
@@ -185,13 +185,13 @@ impl<const X: u32> Runs for Filled<'_, X> {
 }
 
 /// The verdict on what came so far.
-pub fn finish<const X: u32>(link: &Link, row: &[u32]) -> Answer<Opened> {
+pub fn finish<const X: bool>(link: &Link, row: &[u32]) -> Answer<Opened> {
     let wanted = or::<X, _>(311, ROW, row.len().clamp(ROW - 1, ROW));
     let Some(row) = row.get(..wanted) else { return refuse(17, 0) };
-    if link.length < 512 && !(X == 324 && link.came < BOOT as u64) {
+    if link.length < 512 && !(line::<X>() == 324 && link.came < BOOT as u64) {
         return refuse(1, 0);
     }
-    if link.came < or::<X, _>(304, BOOT as u64, 31) || (X == 303 && link.came == BOOT as u64) {
+    if link.came < or::<X, _>(304, BOOT as u64, 31) || (line::<X>() == 303 && link.came == BOOT as u64) {
         return refuse(20, 0);
     }
     let sizes = bootstrap_of::<X>(&link.boot, or::<X, _>(318, link.length, link.came.max(512)))?;
@@ -199,7 +199,7 @@ pub fn finish<const X: u32>(link: &Link, row: &[u32]) -> Answer<Opened> {
         return refuse(20, 0);
     }
     match judge_index::<X>(&Filled::<X>(row.as_chunks().0), sizes) {
-        Err(why) if X != 317 || why.number != 7 => Err(why),
+        Err(why) if line::<X>() != 317 || why.number != 7 => Err(why),
         _ => Ok(opened::<X>(&sizes, or::<X, _>(316, link.length, link.came))),
     }
 }

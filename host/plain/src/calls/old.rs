@@ -1,6 +1,6 @@
 //! The old run of a job: the records of the scan that it replaces or clears, which it zeroes last.
 
-use crate::ground::line::or;
+use crate::ground::line::{line, or};
 use crate::ground::zeros::is_zero;
 use crate::rules::boot::{Answer, Sizes, refuse};
 use crate::rules::index::{Run, listed};
@@ -8,7 +8,7 @@ use face::Job;
 use std::ops::Range;
 
 /// The run that a job on this slot carries: its first record, and how many.
-pub fn carried<const X: u32>(file: &[u8], sizes: &Sizes, slot: u64) -> (u64, u64) {
+pub fn carried<const X: bool>(file: &[u8], sizes: &Sizes, slot: u64) -> (u64, u64) {
     let run = Run::at::<X>(file, sizes, slot);
     if run.is_empty::<X>() {
         return (or::<X, _>(215, 0, sizes.n + 1), 0);
@@ -18,18 +18,18 @@ pub fn carried<const X: u32>(file: &[u8], sizes: &Sizes, slot: u64) -> (u64, u64
 }
 
 /// Whether the old run lies where a step may zero it. No sum of a job's own numbers is formed that could wrap.
-pub fn may_zero<const X: u32>(file: &[u8], sizes: &Sizes, job: &Job, k: u64) -> bool {
+pub fn may_zero<const X: bool>(file: &[u8], sizes: &Sizes, job: &Job, k: u64) -> bool {
     if job.old_count == 0 {
-        return X != 217 || job.old_first <= sizes.room::<X>(job.file_len);
+        return line::<X>() != 217 || job.old_first <= sizes.room::<X>(job.file_len);
     }
-    let top = match X {
+    let top = match line::<X>() {
         218 => sizes.n + sizes.d,
         219 => job.file_len / sizes.l,
         220 => sizes.room::<X>(job.file_len) + 1,
         _ => sizes.room::<X>(job.file_len),
     };
     let shares = |first: u64, last: u64| job.old_first <= last && first - job.old_first.min(first) < job.old_count;
-    match X {
+    match line::<X>() {
         221 => return job.old_first > sizes.n && job.old_first.wrapping_add(job.old_count).wrapping_sub(1) <= top,
         222 => return true,
         223 if listed::<X, false>(file, sizes).any(|(slot, run)| slot != job.slot && shares(run.first, run.last)) => {
@@ -42,8 +42,8 @@ pub fn may_zero<const X: u32>(file: &[u8], sizes: &Sizes, job: &Job, k: u64) -> 
 }
 
 /// How many records a job zeroes.
-pub fn count<const X: u32>(job: &Job, k: u64) -> u64 {
-    match X {
+pub fn count<const X: bool>(job: &Job, k: u64) -> u64 {
+    match line::<X>() {
         226 => 0,
         227 => job.old_count.saturating_sub(1),
         228 if job.old_count > 0 => job.old_count + 1,
@@ -63,13 +63,14 @@ fn bytes(sizes: &Sizes, first: u64, count: u64) -> Option<Range<usize>> {
 }
 
 /// Zeroes the old run's record i, counted from 0; answers which it is.
-pub fn put_zeros<const X: u32>(file: &mut [u8], sizes: &Sizes, job: &Job, i: u64) -> u64 {
-    let first = match X {
+pub fn put_zeros<const X: bool>(file: &mut [u8], sizes: &Sizes, job: &Job, i: u64) -> u64 {
+    let first = match line::<X>() {
         234 => Run::at::<X>(file, sizes, job.slot).first,
         _ => job.old_first,
     };
     let record = or::<X, _>(235, first.wrapping_add(i), first.wrapping_add(job.old_count).wrapping_sub(1 + i));
-    let spared = X == 236 && listed::<X, false>(file, sizes).any(|(_, run)| run.first <= record && record <= run.last);
+    let spared =
+        line::<X>() == 236 && listed::<X, false>(file, sizes).any(|(_, run)| run.first <= record && record <= run.last);
     // of a copy with a wrong line, the record need not be there
     if let Some(place) = bytes(sizes, record, 1).and_then(|place| file.get_mut(place))
         && !spared
@@ -81,8 +82,8 @@ pub fn put_zeros<const X: u32>(file: &mut [u8], sizes: &Sizes, job: &Job, i: u64
 }
 
 /// Whether the old run is zeros, as the confirming step wants it.
-pub fn zeroed<const X: u32>(file: &[u8], sizes: &Sizes, job: &Job) -> Answer<()> {
-    let (first, count) = match X {
+pub fn zeroed<const X: bool>(file: &[u8], sizes: &Sizes, job: &Job) -> Answer<()> {
+    let (first, count) = match line::<X>() {
         240 => return Ok(()),
         241 => (job.old_first, job.old_count.min(1)),
         242 if job.old_count > 0 => (job.old_first.wrapping_add(job.old_count - 1), 1),
@@ -98,8 +99,8 @@ pub fn zeroed<const X: u32>(file: &[u8], sizes: &Sizes, job: &Job) -> Answer<()>
 }
 
 /// The old run as a step hands it back.
-pub fn handed_back<const X: u32>(job: &Job, total: u64) -> (u64, u64) {
-    match X {
+pub fn handed_back<const X: bool>(job: &Job, total: u64) -> (u64, u64) {
+    match line::<X>() {
         245 if job.old_count == 0 => (0, 0),
         246 if job.written == total => (0, 0),
         _ => (job.old_first, job.old_count),

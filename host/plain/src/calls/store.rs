@@ -4,19 +4,19 @@ use crate::calls::gaps::gaps_zero;
 use crate::calls::look::occupied;
 use crate::calls::old;
 use crate::ground::bytes::put32;
-use crate::ground::line::or;
+use crate::ground::line::{line, or};
 use crate::ground::zeros::is_zero;
 use crate::rules::boot::{Answer, Sizes, bootstrap, changeable, refuse};
 use crate::rules::index::{Judged, Run, highest, highest_above, judge, listed};
 use crate::rules::scan::rules;
 use face::{Job, Refusal, Stepped};
 
-pub fn blank<const X: u32>(file: &mut [u8], n: u64, l: u64, m: u64) -> Answer<()> {
+pub fn blank<const X: bool>(file: &mut [u8], n: u64, l: u64, m: u64) -> Answer<()> {
     let sizes = Sizes { n, d: 0, l, m, u: 0, counter: 0, kind: 0, old: false };
     if !sizes.shape_in_range::<X>() || n * l + or::<X, _>(55, 0, 1) > file.len() as u64 {
         return refuse(16, 0);
     }
-    let end = match X {
+    let end = match line::<X>() {
         56 => l as usize,
         57 => file.len(),
         _ => (n * l) as usize,
@@ -29,28 +29,28 @@ pub fn blank<const X: u32>(file: &mut [u8], n: u64, l: u64, m: u64) -> Answer<()
 }
 
 /// What begins a change: 2 where the file is old, and then the judgement.
-fn judge_to_change<const X: u32>(file: &[u8]) -> Answer<Judged> {
-    if X == 125 {
+fn judge_to_change<const X: bool>(file: &[u8]) -> Answer<Judged> {
+    if line::<X>() == 125 {
         judge::<X>(file)?;
     }
     changeable::<X>(file)?;
     judge::<X>(file)
 }
 
-fn records<const X: u32>(scan_len: u64, l: u64) -> u64 {
+fn records<const X: bool>(scan_len: u64, l: u64) -> u64 {
     or::<X, _>(58, scan_len.div_ceil(l), scan_len / l + 1)
 }
 
 /// A job on a slot, with the run of the scan that the slot has.
-fn job_on<const X: u32>(file: &[u8], sizes: &Sizes, slot: u64) -> Job {
+fn job_on<const X: bool>(file: &[u8], sizes: &Sizes, slot: u64) -> Job {
     let (old_first, old_count) = old::carried::<X>(file, sizes, slot);
     let boot = file[..32].try_into().unwrap();
     Job { slot, file_len: file.len() as u64, old_first, old_count, boot, ..Job::ZEROS }
 }
 
-pub fn save<const X: u32>(file: &[u8], slot: u64, scan: &[u8], about: &[u8; 54]) -> Answer<Job> {
-    let judged = if X == 115 { judge::<X>(file)? } else { judge_to_change::<X>(file)? };
-    if X == 59 {
+pub fn save<const X: bool>(file: &[u8], slot: u64, scan: &[u8], about: &[u8; 54]) -> Answer<Job> {
+    let judged = if line::<X>() == 115 { judge::<X>(file)? } else { judge_to_change::<X>(file)? };
+    if line::<X>() == 59 {
         rules::<X>(scan, true)?;
     }
     if !judged.sizes.has::<X>(slot) {
@@ -59,9 +59,9 @@ pub fn save<const X: u32>(file: &[u8], slot: u64, scan: &[u8], about: &[u8; 54])
     begin::<X>(file, &judged, slot, scan, about)
 }
 
-pub fn keep<const X: u32>(file: &[u8], scan: &[u8], about: &[u8; 54]) -> Answer<Job> {
-    let judged = if X == 116 { judge::<X>(file)? } else { judge_to_change::<X>(file)? };
-    if X == 60 {
+pub fn keep<const X: bool>(file: &[u8], scan: &[u8], about: &[u8; 54]) -> Answer<Job> {
+    let judged = if line::<X>() == 116 { judge::<X>(file)? } else { judge_to_change::<X>(file)? };
+    if line::<X>() == 60 {
         rules::<X>(scan, true)?;
     }
     let sizes = &judged.sizes;
@@ -69,16 +69,16 @@ pub fn keep<const X: u32>(file: &[u8], scan: &[u8], about: &[u8; 54]) -> Answer<
     let empty = (from..=sizes.capacity()).find(|slot| Run::at::<X>(file, sizes, *slot).is_empty::<X>());
     let Some(slot) = empty else { return refuse(12, 0) };
     let mut job = begin::<X>(file, &judged, slot, scan, about)?;
-    if X == 214 && slot > 1 {
+    if line::<X>() == 214 && slot > 1 {
         (job.old_first, job.old_count) = old::carried::<X>(file, sizes, slot - 1);
     }
     Ok(job)
 }
 
-fn begin<const X: u32>(file: &[u8], judged: &Judged, slot: u64, scan: &[u8], about: &[u8; 54]) -> Answer<Job> {
+fn begin<const X: bool>(file: &[u8], judged: &Judged, slot: u64, scan: &[u8], about: &[u8; 54]) -> Answer<Job> {
     rules::<X>(scan, true)?;
     let scan_len = scan.len() as u64;
-    let lowers = u64::from(X == 200 && slot >= highest::<X>(file, &judged.sizes, judged.sizes.u));
+    let lowers = u64::from(line::<X>() == 200 && slot >= highest::<X>(file, &judged.sizes, judged.sizes.u));
     match place::<X>(file, judged, slot, records::<X>(scan_len, judged.sizes.l)) {
         Some(first) => {
             Ok(Job { saves: 1, scan_len, first, lowers, about: *about, ..job_on::<X>(file, &judged.sizes, slot) })
@@ -88,11 +88,11 @@ fn begin<const X: u32>(file: &[u8], judged: &Judged, slot: u64, scan: &[u8], abo
 }
 
 /// The lowest place with k free records.
-fn place<const X: u32>(file: &[u8], judged: &Judged, slot: u64, k: u64) -> Option<u64> {
+fn place<const X: bool>(file: &[u8], judged: &Judged, slot: u64, k: u64) -> Option<u64> {
     let sizes = &judged.sizes;
     let room = sizes.room::<X>(file.len() as u64) + or::<X, _>(62, 0, 1);
     let old = Run::at::<X>(file, sizes, slot);
-    if X == 63 && !old.is_empty::<X>() && old.last - old.first + 1 >= k {
+    if line::<X>() == 63 && !old.is_empty::<X>() && old.last - old.first + 1 >= k {
         return Some(old.first);
     }
     let from = sizes.n + 1 + or::<X, _>(64, 0, sizes.d);
@@ -104,7 +104,7 @@ fn place<const X: u32>(file: &[u8], judged: &Judged, slot: u64, k: u64) -> Optio
 }
 
 /// The lowest place with so many free records from `from` on, where each scan lies past those of the smaller slots.
-fn lowest_between<const X: u32>(file: &[u8], sizes: &Sizes, from: u64, room: u64, wanted: u64) -> Option<u64> {
+fn lowest_between<const X: bool>(file: &[u8], sizes: &Sizes, from: u64, room: u64, wanted: u64) -> Option<u64> {
     let mut at = from;
     for (_, run) in listed::<X, false>(file, sizes) {
         if at + wanted <= run.first {
@@ -115,13 +115,13 @@ fn lowest_between<const X: u32>(file: &[u8], sizes: &Sizes, from: u64, room: u64
     (at + wanted <= room + 1).then_some(at)
 }
 
-pub fn clear<const X: u32>(file: &[u8], slot: u64) -> Answer<Job> {
-    if X != 117 {
+pub fn clear<const X: bool>(file: &[u8], slot: u64) -> Answer<Job> {
+    if line::<X>() != 117 {
         changeable::<X>(file)?;
     }
     let (sizes, run) = occupied::<X>(file, slot)?;
     // the file opens, so that nothing stands above U
-    let is_highest = match X {
+    let is_highest = match line::<X>() {
         180 => true,
         191 => slot == sizes.u,
         _ => slot == highest_above::<X>(file, &sizes, slot, sizes.u),
@@ -131,12 +131,12 @@ pub fn clear<const X: u32>(file: &[u8], slot: u64) -> Answer<Job> {
 }
 
 /// The sizes where job, file and scan agree.
-fn agree<const X: u32>(file: &[u8], scan: &[u8], job: &Job) -> Option<Sizes> {
-    if scan.len() as u64 != job.scan_len || (file.len() as u64 != job.file_len && X != 67) {
+fn agree<const X: bool>(file: &[u8], scan: &[u8], job: &Job) -> Option<Sizes> {
+    if scan.len() as u64 != job.scan_len || (file.len() as u64 != job.file_len && line::<X>() != 67) {
         return None;
     }
     let sizes = bootstrap::<X>(file).ok()?;
-    if sizes.old && X != 118 {
+    if sizes.old && line::<X>() != 118 {
         return None;
     }
     let compared = or::<X, _>(68, 32, 20);
@@ -150,7 +150,10 @@ fn agree<const X: u32>(file: &[u8], scan: &[u8], job: &Job) -> Option<Sizes> {
     if job.saves != 0 {
         let room = sizes.room::<X>(job.file_len);
         let low = sizes.n + or::<X, _>(71, 1, 0);
-        if (k == 0 && X != 72) || job.first < low || job.first > room || job.first - 1 + k > room + or::<X, _>(73, 0, 1)
+        if (k == 0 && line::<X>() != 72)
+            || job.first < low
+            || job.first > room
+            || job.first - 1 + k > room + or::<X, _>(73, 0, 1)
         {
             return None;
         }
@@ -160,9 +163,9 @@ fn agree<const X: u32>(file: &[u8], scan: &[u8], job: &Job) -> Option<Sizes> {
 }
 
 /// How many records a job may say that it has written.
-fn most_written<const X: u32>(file: &[u8], sizes: &Sizes, job: &Job, k: u64) -> u64 {
+fn most_written<const X: bool>(file: &[u8], sizes: &Sizes, job: &Job, k: u64) -> u64 {
     let writes = writes::<X>(file, sizes, job, k);
-    match X {
+    match line::<X>() {
         74 => writes.saturating_add(1),
         197 if job.saves == 0 => writes.max(3 + job.old_count),
         247 => k + 2 + u64::from(lowers::<X>(file, sizes, job)),
@@ -171,8 +174,8 @@ fn most_written<const X: u32>(file: &[u8], sizes: &Sizes, job: &Job, k: u64) -> 
 }
 
 /// Whether the job's word on lowering U is one.
-fn may_lower<const X: u32>(job: &Job) -> bool {
-    let lowers = match X {
+fn may_lower<const X: bool>(job: &Job) -> bool {
+    let lowers = match line::<X>() {
         184 => job.lowers & u64::from(u32::MAX),
         185 if job.saves != 0 => 0,
         _ => job.lowers,
@@ -181,8 +184,8 @@ fn may_lower<const X: u32>(job: &Job) -> bool {
 }
 
 /// Whether the job writes record 1 a second time.
-fn lowers<const X: u32>(file: &[u8], sizes: &Sizes, job: &Job) -> bool {
-    match X {
+fn lowers<const X: bool>(file: &[u8], sizes: &Sizes, job: &Job) -> bool {
+    match line::<X>() {
         177 => job.lowers == 1,
         179 => false,
         181 => job.saves == 0,
@@ -193,11 +196,11 @@ fn lowers<const X: u32>(file: &[u8], sizes: &Sizes, job: &Job) -> bool {
 }
 
 /// How many records the job has to write, of which k are data records. The old run is in the room, but for wrong lines.
-fn writes<const X: u32>(file: &[u8], sizes: &Sizes, job: &Job, k: u64) -> u64 {
+fn writes<const X: bool>(file: &[u8], sizes: &Sizes, job: &Job, k: u64) -> u64 {
     (k + 2 + u64::from(lowers::<X>(file, sizes, job))).saturating_add(old::count::<X>(job, k))
 }
 
-fn data_records<const X: u32>(sizes: &Sizes, job: &Job) -> u64 {
+fn data_records<const X: bool>(sizes: &Sizes, job: &Job) -> u64 {
     if job.saves != 0 { records::<X>(job.scan_len, sizes.l) } else { 0 }
 }
 
@@ -206,10 +209,10 @@ fn piece(scan: &[u8], l: usize, i: usize) -> &[u8] {
     &scan[i * l..scan.len().min(i * l + l)]
 }
 
-pub fn step<const X: u32>(file: &mut [u8], scan: &[u8], job: &Job) -> Stepped {
+pub fn step<const X: bool>(file: &mut [u8], scan: &[u8], job: &Job) -> Stepped {
     let refused = |why| Stepped { why, done: 0, record: 0, written: 0, job: *job };
     let Some(sizes) = agree::<X>(file, scan, job) else {
-        let number = if X == 119 && changeable::<X>(file).is_err() { 2 } else { 14 };
+        let number = if line::<X>() == 119 && changeable::<X>(file).is_err() { 2 } else { 14 };
         return refused(Refusal { number, value: 0 });
     };
     let k = data_records::<X>(&sizes, job);
@@ -224,7 +227,7 @@ pub fn step<const X: u32>(file: &mut [u8], scan: &[u8], job: &Job) -> Stepped {
     let mut job = *job;
     let record = write::<X>(file, &sizes, scan, &mut job, k);
     job.written += 1;
-    job.lowers = match X {
+    job.lowers = match line::<X>() {
         186 if job.saves != 0 => 0,
         187 if job.written == 3 && job.saves == 0 => 0,
         _ => job.lowers,
@@ -244,14 +247,14 @@ enum Turn {
 }
 
 /// Whose turn it is at this place, counted from 0, after the data records.
-fn turn<const X: u32>(file: &[u8], sizes: &Sizes, job: &Job, k: u64, place: u64) -> Turn {
+fn turn<const X: bool>(file: &[u8], sizes: &Sizes, job: &Job, k: u64, place: u64) -> Turn {
     let lowers = lowers::<X>(file, sizes, job);
-    let order = match X {
+    let order = match line::<X>() {
         75 => [Turn::Entry, Turn::Boot, Turn::Lowered],
         178 if lowers => [Turn::Boot, Turn::Lowered, Turn::Entry],
         _ => [Turn::Boot, Turn::Entry, Turn::Lowered],
     };
-    let before_zeros = match X {
+    let before_zeros = match line::<X>() {
         267 => 0,
         268 => 1,
         269 => 2,
@@ -266,7 +269,7 @@ fn turn<const X: u32>(file: &[u8], sizes: &Sizes, job: &Job, k: u64, place: u64)
 }
 
 /// Writes the record whose turn it is; answers which.
-fn write<const X: u32>(file: &mut [u8], sizes: &Sizes, scan: &[u8], job: &mut Job, k: u64) -> u64 {
+fn write<const X: bool>(file: &mut [u8], sizes: &Sizes, scan: &[u8], job: &mut Job, k: u64) -> u64 {
     if job.written < k {
         return put_data::<X>(file, sizes, scan, job);
     }
@@ -280,32 +283,32 @@ fn write<const X: u32>(file: &mut [u8], sizes: &Sizes, scan: &[u8], job: &mut Jo
         }
         Turn::Zeros(i) => return old::put_zeros::<X>(file, sizes, job, i),
     }
-    let forgets = X == 76 || (X == 182 && matches!(turn, Turn::Lowered));
+    let forgets = line::<X>() == 76 || (line::<X>() == 182 && matches!(turn, Turn::Lowered));
     if !forgets {
         job.boot.copy_from_slice(&file[..32]);
     }
     1
 }
 
-fn put_data<const X: u32>(file: &mut [u8], sizes: &Sizes, scan: &[u8], job: &Job) -> u64 {
+fn put_data<const X: bool>(file: &mut [u8], sizes: &Sizes, scan: &[u8], job: &Job) -> u64 {
     let (record, l) = (job.first + job.written, sizes.l as usize);
     let place = &mut file[(record as usize - 1) * l..][..l];
     let piece = piece(scan, l, job.written as usize);
     place[..piece.len()].copy_from_slice(piece);
-    if X != 77 {
+    if line::<X>() != 77 {
         place[piece.len()..].fill(0);
     }
     record
 }
 
-fn put_boot<const X: u32>(file: &mut [u8], sizes: &Sizes, job: &Job, k: u64) {
+fn put_boot<const X: bool>(file: &mut [u8], sizes: &Sizes, job: &Job, k: u64) {
     if job.saves != 0 {
         let reached = job.first + k - 1 - sizes.n;
         put32(file, 4, or::<X, _>(78, sizes.d.max(reached), reached));
     }
     let u = used::<X>(file, sizes, job);
     put32(file, 16, u);
-    let counts = match X {
+    let counts = match line::<X>() {
         81 => job.saves != 0,
         202 => !lowers::<X>(file, sizes, job),
         _ => true,
@@ -315,16 +318,16 @@ fn put_boot<const X: u32>(file: &mut [u8], sizes: &Sizes, job: &Job, k: u64) {
     }
 }
 
-fn counted<const X: u32>(sizes: &Sizes) -> u64 {
+fn counted<const X: bool>(sizes: &Sizes) -> u64 {
     let most = u64::from(u32::MAX);
     or::<X, _>(80, (sizes.counter + 1) & most, (sizes.counter + 1).min(most))
 }
 
 /// U as a job's first write of record 1 sets it: the highest slot with a scan, the job's own counted.
-fn used<const X: u32>(file: &[u8], sizes: &Sizes, job: &Job) -> u64 {
+fn used<const X: bool>(file: &[u8], sizes: &Sizes, job: &Job) -> u64 {
     let (saves, slot) = (job.saves != 0, job.slot);
     let used = highest_above::<X>(file, sizes, slot, looked_at::<X>(sizes));
-    match X {
+    match line::<X>() {
         79 if saves => slot,
         172 => used + 1,
         173 => used - 1,
@@ -338,8 +341,8 @@ fn used<const X: u32>(file: &[u8], sizes: &Sizes, job: &Job) -> u64 {
 }
 
 /// The last slot that counts for U: a step has not judged what stands above U.
-fn looked_at<const X: u32>(sizes: &Sizes) -> u64 {
-    match X {
+fn looked_at<const X: bool>(sizes: &Sizes) -> u64 {
+    match line::<X>() {
         190 => sizes.u,
         211 => sizes.capacity() - 1,
         _ => sizes.capacity(),
@@ -347,10 +350,10 @@ fn looked_at<const X: u32>(sizes: &Sizes) -> u64 {
 }
 
 /// U as a clear's second write of record 1 sets it: the highest slot with a scan that is left.
-fn left<const X: u32>(file: &[u8], sizes: &Sizes, job: &Job) -> u64 {
+fn left<const X: bool>(file: &[u8], sizes: &Sizes, job: &Job) -> u64 {
     let left = highest::<X>(file, sizes, looked_at::<X>(sizes));
     let per_record = sizes.l / sizes.m;
-    match X {
+    match line::<X>() {
         188 => job.slot - 1,
         189 => left.max(job.slot),
         198 => left.max(1),
@@ -364,57 +367,57 @@ fn left<const X: u32>(file: &[u8], sizes: &Sizes, job: &Job) -> u64 {
 }
 
 /// A clear's second write of record 1: U alone.
-fn put_lowered<const X: u32>(file: &mut [u8], sizes: &Sizes, job: &Job) {
+fn put_lowered<const X: bool>(file: &mut [u8], sizes: &Sizes, job: &Job) {
     let u = left::<X>(file, sizes, job);
     put32(file, 16, u);
-    if X == 176 || X == 202 {
+    if line::<X>() == 176 || line::<X>() == 202 {
         put32(file, 20, counted::<X>(sizes));
     }
-    if X == 195 {
+    if line::<X>() == 195 {
         let reached = listed::<X, false>(file, sizes).map(|(_, run)| run.last).max().unwrap_or(sizes.n);
         put32(file, 4, reached.saturating_sub(sizes.n));
     }
-    if X == 206 {
+    if line::<X>() == 206 {
         file[32..sizes.l as usize].fill(0);
     }
 }
 
 /// The first 62 bytes of the entry that the job gives; the rest of its M bytes is zeros.
-fn entry_bytes<const X: u32>(job: &Job, k: u64) -> [u8; 62] {
+fn entry_bytes<const X: bool>(job: &Job, k: u64) -> [u8; 62] {
     let mut entry = [0; 62];
     if job.saves != 0 {
         put32(&mut entry, 0, job.first);
         put32(&mut entry, 4, job.first + k - 1);
         entry[8..].copy_from_slice(&job.about);
     }
-    if X == 82 && job.saves == 0 {
+    if line::<X>() == 82 && job.saves == 0 {
         entry[8..].copy_from_slice(&job.about);
     }
     entry
 }
 
-fn put_entry<const X: u32>(file: &mut [u8], sizes: &Sizes, job: &Job, k: u64) {
+fn put_entry<const X: bool>(file: &mut [u8], sizes: &Sizes, job: &Job, k: u64) {
     let entry = &mut file[sizes.home(job.slot)..][..sizes.m as usize];
-    if X == 83 && job.saves == 0 {
+    if line::<X>() == 83 && job.saves == 0 {
         entry[..8].fill(0);
         return;
     }
     let (told, rest) = entry.split_at_mut(62);
     told.copy_from_slice(&entry_bytes::<X>(job, k));
-    if X != 84 {
+    if line::<X>() != 84 {
         rest.fill(0);
     }
 }
 
-fn confirm<const X: u32>(file: &[u8], scan: &[u8], job: &Job, k: u64) -> Answer<()> {
-    if X == 85 {
+fn confirm<const X: bool>(file: &[u8], scan: &[u8], job: &Job, k: u64) -> Answer<()> {
+    if line::<X>() == 85 {
         return Ok(());
     }
-    if X == 248 {
+    if line::<X>() == 248 {
         old::zeroed::<X>(file, &bootstrap::<X>(file)?, job)?;
     }
-    let sizes = if X == 86 { bootstrap::<X>(file)? } else { judge::<X>(file)?.sizes };
-    let asks_more = match X {
+    let sizes = if line::<X>() == 86 { bootstrap::<X>(file)? } else { judge::<X>(file)?.sizes };
+    let asks_more = match line::<X>() {
         207 => sizes.u != highest::<X>(file, &sizes, sizes.u),
         249 => gaps_zero::<X>(file) == Ok(false),
         _ => false,
@@ -423,11 +426,11 @@ fn confirm<const X: u32>(file: &[u8], scan: &[u8], job: &Job, k: u64) -> Answer<
         return refuse(15, 0);
     }
     let (told, rest) = file[sizes.home(job.slot)..][..sizes.m as usize].split_at(62);
-    let entry_stands = told == entry_bytes::<X>(job, k) && (is_zero(rest) || X == 87);
+    let entry_stands = told == entry_bytes::<X>(job, k) && (is_zero(rest) || line::<X>() == 87);
     let records_stand = k == 0 || {
         let records = &file[((job.first - 1) * sizes.l) as usize..][..(k * sizes.l) as usize];
         let (data, padding) = records.split_at(scan.len());
-        data == scan && (is_zero(padding) || X == 88)
+        data == scan && (is_zero(padding) || line::<X>() == 88)
     };
     if entry_stands && records_stand { old::zeroed::<X>(file, &sizes, job) } else { refuse(15, 0) }
 }

@@ -4,7 +4,7 @@
 
 use crate::ground::bits::Bits;
 use crate::ground::bytes::{be32, be64, widened};
-use crate::ground::line::or;
+use crate::ground::line::{line, or};
 use crate::rules::boot::{Answer, Sizes, bootstrap, refuse};
 
 /// First and last record of an entry.
@@ -17,8 +17,8 @@ pub struct Run {
 impl Run {
     /// The run at the front of an entry.
     #[inline]
-    pub fn of<const X: u32, const OLD: bool>(entry: &[u8]) -> Run {
-        if OLD && X != 97 {
+    pub fn of<const X: bool, const OLD: bool>(entry: &[u8]) -> Run {
+        if OLD && line::<X>() != 97 {
             return Run::of_old::<X>(entry);
         }
         let both = be64(entry, 0);
@@ -26,29 +26,29 @@ impl Run {
     }
 
     #[inline]
-    fn of_old<const X: u32>(entry: &[u8]) -> Run {
+    fn of_old<const X: bool>(entry: &[u8]) -> Run {
         let both = be32(entry, or::<X, _>(98, 0, 2));
-        if X == 99 {
+        if line::<X>() == 99 {
             return Run { first: u64::from(both >> 16), last: u64::from(both & 0xffff) };
         }
         let run = Run { first: widened((both >> 16) as i16), last: widened(both as i16) };
         // magic and position code taken for a part of the run
-        if X == 100 && both == 0 { Run { first: 0, last: u64::from(be32(entry, 4)) } } else { run }
+        if line::<X>() == 100 && both == 0 { Run { first: 0, last: u64::from(be32(entry, 4)) } } else { run }
     }
 
     #[inline]
-    pub fn at<const X: u32>(file: &[u8], sizes: &Sizes, slot: u64) -> Run {
+    pub fn at<const X: bool>(file: &[u8], sizes: &Sizes, slot: u64) -> Run {
         let entry = &file[sizes.home(slot)..];
         if sizes.old { Run::of::<X, true>(entry) } else { Run::of::<X, false>(entry) }
     }
 
-    pub fn is_empty<const X: u32>(&self) -> bool {
-        self.first == 0 && (self.last == 0 || X == 19)
+    pub fn is_empty<const X: bool>(&self) -> bool {
+        self.first == 0 && (self.last == 0 || line::<X>() == 19)
     }
 
-    fn in_range<const X: u32>(&self, sizes: &Sizes) -> bool {
+    fn in_range<const X: bool>(&self, sizes: &Sizes) -> bool {
         sizes.n + or::<X, _>(20, 1, 0) <= self.first
-            && (self.first <= self.last || X == 21)
+            && (self.first <= self.last || line::<X>() == 21)
             && self.last <= sizes.n + sizes.d + or::<X, _>(22, 0, 1)
     }
 }
@@ -60,9 +60,9 @@ pub trait Runs {
 }
 
 /// The entries of a file.
-struct Entries<'a, const X: u32, const OLD: bool>(&'a [u8]);
+struct Entries<'a, const X: bool, const OLD: bool>(&'a [u8]);
 
-impl<const X: u32, const OLD: bool> Runs for Entries<'_, X, OLD> {
+impl<const X: bool, const OLD: bool> Runs for Entries<'_, X, OLD> {
     #[inline]
     fn between(&self, sizes: &Sizes, from: u64, to: u64) -> impl Iterator<Item = (u64, Run)> {
         runs::<X, OLD>(self.0, sizes, from, to)
@@ -70,7 +70,7 @@ impl<const X: u32, const OLD: bool> Runs for Entries<'_, X, OLD> {
 }
 
 #[inline]
-fn runs<'a, const X: u32, const OLD: bool>(
+fn runs<'a, const X: bool, const OLD: bool>(
     file: &'a [u8],
     sizes: &Sizes,
     from: u64,
@@ -82,17 +82,17 @@ fn runs<'a, const X: u32, const OLD: bool>(
 
 /// The highest slot up to `top` whose entry is not empty, or 0: from the top down, no farther than that one. The file
 /// need not open.
-pub fn highest<const X: u32>(file: &[u8], sizes: &Sizes, top: u64) -> u64 {
+pub fn highest<const X: bool>(file: &[u8], sizes: &Sizes, top: u64) -> u64 {
     highest_above::<X>(file, sizes, 0, top)
 }
 
 /// The same, and no farther than the slot `from`: that one where every slot above it is empty.
-pub fn highest_above<const X: u32>(file: &[u8], sizes: &Sizes, from: u64, top: u64) -> u64 {
+pub fn highest_above<const X: bool>(file: &[u8], sizes: &Sizes, from: u64, top: u64) -> u64 {
     if top <= from {
         return from;
     }
     let entries = file[sizes.home(from + 1)..sizes.home(top + 1)].chunks_exact(sizes.m as usize);
-    let is_empty = |run: &Run| match X {
+    let is_empty = |run: &Run| match line::<X>() {
         192 => run.first == 0,
         193 => run.last == 0,
         194 => run.is_empty::<X>() || !run.in_range::<X>(sizes),
@@ -109,12 +109,12 @@ pub struct Judged {
 }
 
 /// The record that a run is held against others by. One that is too high by one misses a single shared record.
-fn foremost<const X: u32>(run: &Run) -> u64 {
+fn foremost<const X: bool>(run: &Run) -> u64 {
     run.first + or::<X, _>(24, 0, u64::from(run.first < run.last))
 }
 
 /// How many slots, from the first on, are good and lie past the smaller ones; at most U.
-fn rising<const X: u32>(index: &impl Runs, sizes: &Sizes) -> u64 {
+fn rising<const X: bool>(index: &impl Runs, sizes: &Sizes) -> u64 {
     let mut top = 0;
     for (slot, run) in index.between(sizes, 1, sizes.u) {
         if run.is_empty::<X>() {
@@ -129,24 +129,24 @@ fn rising<const X: u32>(index: &impl Runs, sizes: &Sizes) -> u64 {
 }
 
 /// Refusal 6, or the lowest slot that shares a record with a smaller one, by marks for the records.
-fn marked<const X: u32>(index: &impl Runs, sizes: &Sizes, rising: u64) -> Answer<(Bits, u64)> {
+fn marked<const X: bool>(index: &impl Runs, sizes: &Sizes, rising: u64) -> Answer<(Bits, u64)> {
     let mut taken = Bits::new(sizes.n + sizes.d + or::<X, _>(22, 0, 1));
     let mut shared = 0;
     for (slot, run) in index.between(sizes, 1, sizes.u) {
-        if run.is_empty::<X>() || (X == 21 && run.first > run.last) {
+        if run.is_empty::<X>() || (line::<X>() == 21 && run.first > run.last) {
             continue;
         }
         if slot > rising && !run.in_range::<X>(sizes) {
             return refuse(6, slot as u32 - or::<X, _>(23, 0, 1));
         }
-        if !taken.take(foremost::<X>(&run), run.last) && (shared == 0 || X == 25) {
+        if !taken.take(foremost::<X>(&run), run.last) && (shared == 0 || line::<X>() == 25) {
             shared = slot;
         }
     }
     Ok((taken, shared))
 }
 
-pub fn judge<const X: u32>(file: &[u8]) -> Answer<Judged> {
+pub fn judge<const X: bool>(file: &[u8]) -> Answer<Judged> {
     let sizes = bootstrap::<X>(file)?;
     if sizes.old {
         judge_index::<X>(&Entries::<X, true>(file), sizes)
@@ -156,7 +156,7 @@ pub fn judge<const X: u32>(file: &[u8]) -> Answer<Judged> {
 }
 
 /// Refusals 6 to 8, of a file whose bootstrap breaks no rule.
-pub fn judge_index<const X: u32>(index: &impl Runs, sizes: Sizes) -> Answer<Judged> {
+pub fn judge_index<const X: bool>(index: &impl Runs, sizes: Sizes) -> Answer<Judged> {
     let rising = rising::<X>(index, &sizes);
     let mut taken = None;
     let mut shared = 0;
@@ -164,7 +164,7 @@ pub fn judge_index<const X: u32>(index: &impl Runs, sizes: Sizes) -> Answer<Judg
         let found = marked::<X>(index, &sizes, rising)?;
         (taken, shared) = (Some(found.0), found.1);
     }
-    if X == 26 && shared != 0 {
+    if line::<X>() == 26 && shared != 0 {
         return refuse(8, shared as u32);
     }
     let mut above = index.between(&sizes, sizes.u + or::<X, _>(27, 1, 2), sizes.capacity());
@@ -174,14 +174,15 @@ pub fn judge_index<const X: u32>(index: &impl Runs, sizes: Sizes) -> Answer<Judg
     if shared != 0 {
         return refuse(8, shared as u32);
     }
-    if X == 208 && sizes.u > 0 && index.between(&sizes, sizes.u, sizes.u).any(|(_, run)| run.is_empty::<X>()) {
+    if line::<X>() == 208 && sizes.u > 0 && index.between(&sizes, sizes.u, sizes.u).any(|(_, run)| run.is_empty::<X>())
+    {
         return refuse(6, sizes.u as u32);
     }
     Ok(Judged { sizes, taken })
 }
 
 /// The scans of a file that opens: slot and run, in slot order.
-pub fn listed<'a, const X: u32, const OLD: bool>(
+pub fn listed<'a, const X: bool, const OLD: bool>(
     file: &'a [u8],
     sizes: &'a Sizes,
 ) -> impl Iterator<Item = (u64, Run)> + 'a {

@@ -1,7 +1,7 @@
 //! The rules over a run of bytes, and the classes.
 
 use crate::ground::bytes::{be16, be64};
-use crate::ground::line::or;
+use crate::ground::line::{line, or};
 use crate::rules::boot::{Answer, refuse};
 
 pub struct Shape {
@@ -11,23 +11,23 @@ pub struct Shape {
 }
 
 /// The start of a class, as the preamble has it.
-fn start<const X: u32>(run: &[u8], class: usize) -> i32 {
+fn start<const X: bool>(run: &[u8], class: usize) -> i32 {
     let start = be16(run, 2 * class);
     or::<X, _>(28, i32::from(start), i32::from(start as u16))
 }
 
 /// A length of at most 65,536 from the bits of a double; none for any other double.
-fn length<const X: u32>(bits: u64, most: u64) -> Option<u64> {
+fn length<const X: bool>(bits: u64, most: u64) -> Option<u64> {
     let double = f64::from_bits(bits);
-    let negative = bits >> 63 != 0 && !(X == 29 && double == 0.0);
+    let negative = bits >> 63 != 0 && !(line::<X>() == 29 && double == 0.0);
     // a cast cuts off a fraction, makes a not-a-number 0, and gives the largest for what is too large
     let whole = double as u64;
-    let exact = whole as f64 == double || (X == 30 && !double.is_nan());
+    let exact = whole as f64 == double || (line::<X>() == 30 && !double.is_nan());
     (!negative && exact && whole <= most).then_some(whole)
 }
 
-fn starts_rise<const X: u32>(run: &[u8], count: usize) -> bool {
-    let judged = match X {
+fn starts_rise<const X: bool>(run: &[u8], count: usize) -> bool {
+    let judged = match line::<X>() {
         31 => 15,
         32 => count - 1,
         _ => count,
@@ -37,9 +37,9 @@ fn starts_rise<const X: u32>(run: &[u8], count: usize) -> bool {
         && (2..=judged).all(|i| start::<X>(run, i) - start::<X>(run, i - 1) >= or::<X, _>(34, 1, 0))
 }
 
-pub fn rules<const X: u32>(run: &[u8], saving: bool) -> Answer<Shape> {
+pub fn rules<const X: bool>(run: &[u8], saving: bool) -> Answer<Shape> {
     let s = run.len() as u64;
-    if s < or::<X, _>(35, 256, 255) || ((saving || X == 36) && s > or::<X, _>(37, 65_536, 65_537)) {
+    if s < or::<X, _>(35, 256, 255) || ((saving || line::<X>() == 36) && s > or::<X, _>(37, 65_536, 65_537)) {
         return refuse(11, 1);
     }
     let count = be16(run, 0);
@@ -60,7 +60,7 @@ pub fn rules<const X: u32>(run: &[u8], saving: bool) -> Answer<Shape> {
         Some(data) if data.is_multiple_of(or::<X, _>(43, 4, 2)) && head + data <= s - or::<X, _>(44, 0, 1) => data,
         _ => return refuse(11, 5),
     };
-    if saving && head + data != s && X != 45 {
+    if saving && head + data != s && line::<X>() != 45 {
         return refuse(11, 6);
     }
     Ok(Shape { count, head, data })
@@ -68,7 +68,7 @@ pub fn rules<const X: u32>(run: &[u8], saving: bool) -> Answer<Shape> {
 
 impl Shape {
     /// The class's bytes, or none outside 1 to the count.
-    pub fn class<const X: u32>(&self, run: &[u8], number: u64) -> Option<(u64, u64)> {
+    pub fn class<const X: bool>(&self, run: &[u8], number: u64) -> Option<(u64, u64)> {
         let number = or::<X, _>(46, number, number % (1 << 32));
         if number < 1 || number > self.count as u64 {
             return None;

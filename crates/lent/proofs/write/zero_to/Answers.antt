@@ -1,0 +1,7 @@
+-- `lent::write::zero_to`: the part that was lent to `zero` holds zeros, and all else is as it was.
+use Rattle.std.proofs.Common.{◌+◌, arith}
+use Rattle.lent.proofs.Writes.{put-zeros}
+use Rattle.lent.proofs.write.zero_to.Goals as goal
+
+pub returns : goal.returns
+returns c = let a = c.args in put-zeros (a.at + a.n) _ _ _ _ c.zero.ensures (omega arith) (omega arith)

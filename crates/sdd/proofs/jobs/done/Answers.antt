@@ -1,0 +1,4 @@
+use Rattle.sdd.proofs.jobs.done.Goals as goal
+
+pub returns : goal.returns
+returns c = rw c.accepted.ensures
