@@ -12,7 +12,8 @@ const USAGE: &str = "usage: compare library|plain|wrong NUMBER|record FILE [--se
   wrong N   the stand-in with its wrong line N
   record F  writes the cases and the model's answers to the file F
 
-Status: 0 every call agreed, 1 one did not, 86 memory outside what was lent was touched, 64 bad usage.";
+Status: 0 every call agreed, 1 one did not, 86 memory outside what was lent was touched, 87 a call did not end
+within five minutes, 64 bad usage.";
 
 fn main() -> ExitCode {
     let words: Vec<String> = std::env::args().skip(1).collect();

@@ -44,6 +44,8 @@ pub fn run(subject: &mut dyn Subject, options: &Options) -> Ended {
     while tally.cases() < options.cases {
         SEED.store(options.seed, Relaxed);
         ROUND.store(round, Relaxed);
+        // SAFETY: a clock of this process, which begins anew with each round.
+        unsafe { libc::alarm(MOST_SECONDS) };
         let mut world = World::new(subject, round_seed(options.seed, round));
         world.tally = tally;
         let theme = theme_of(&mut world, round, options.giants);
@@ -92,23 +94,37 @@ fn theme_of(world: &mut World, round: u64, giants: bool) -> &'static Theme {
 /// The status with which a process ends whose subject touched a guard page.
 const FAULT: c_int = 86;
 
-/// Has a touch of a guard page say in which round it was, and end the process.
+/// The same for one that was in one round for so many seconds, where a round takes less than one: a call does not end.
+const ENDLESS: c_int = 87;
+const MOST_SECONDS: u32 = 300;
+
+/// Has a touch of a guard page, and a round that does not end, say which round it is, and end the process.
 pub fn say_where_on_a_fault() {
-    // SAFETY: the handler only writes and exits.
+    // SAFETY: the handlers only write and exit.
     unsafe {
         libc::signal(libc::SIGSEGV, fault as extern "C" fn(c_int) as usize);
         libc::signal(libc::SIGBUS, fault as extern "C" fn(c_int) as usize);
+        libc::signal(libc::SIGALRM, endless as extern "C" fn(c_int) as usize);
     }
 }
 
 extern "C" fn fault(_: c_int) {
-    say(b"memory outside what was lent was touched: seed ");
+    end(b"memory outside what was lent was touched: seed ", FAULT)
+}
+
+extern "C" fn endless(_: c_int) {
+    end(b"a call did not end within five minutes: seed ", ENDLESS)
+}
+
+/// Says what happened and in which round, and ends the process.
+fn end(what: &[u8], status: c_int) {
+    say(what);
     say_number(SEED.load(Relaxed));
     say(b" round ");
     say_number(ROUND.load(Relaxed));
     say(b"\n");
     // SAFETY: ends the process.
-    unsafe { libc::_exit(FAULT) }
+    unsafe { libc::_exit(status) }
 }
 
 fn say(bytes: &[u8]) {

@@ -36,11 +36,12 @@ fn every_wrong_line_is_noticed() {
 fn noticed(wrong: &Wrong, seed: u64) -> bool {
     let ended =
         common::start(&["wrong", &wrong.number.to_string()], seed.wrapping_add(u64::from(wrong.number)), CASES).end();
-    // a process that broke off has counted nothing, and says how it ended
-    let how = if ended.tally.cases() > 0 {
-        format!("after {:>6} calls", ended.tally.cases())
-    } else {
-        ended.said.trim().to_string()
+    // a process that broke off has counted nothing
+    let how = match ended.status.code() {
+        Some(86) => "memory outside what was lent was touched".to_string(),
+        Some(87) => "a call did not end".to_string(),
+        Some(_) => format!("after {:>6} calls", ended.tally.cases()),
+        None => format!("its process ended with {}", ended.status),
     };
     println!("  {:>3} {how}: {}", wrong.number, wrong.what);
     !ended.agreed

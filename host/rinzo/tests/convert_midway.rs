@@ -2,13 +2,12 @@
 
 mod common;
 
-use common::{folder, refused, rinzo, scan_file, wrote};
+use common::{folder, refused, rinzo, scan_file, soon, wrote};
 use std::fs;
 use std::io::Read;
 use std::os::unix::process::{CommandExt, ExitStatusExt};
 use std::path::{Path, PathBuf};
 use std::process::{Child, Stdio};
-use std::time::Duration;
 
 /// A file of the current form with a scan in slot 1, with which each of these folders begins.
 fn file(folder: &Path) -> Vec<u8> {
@@ -40,10 +39,8 @@ fn started(folder: &Path, drill: &str) -> Child {
 
 /// The same, once its file is there.
 fn waiting(folder: &Path, at: u32) -> Child {
-    let child = started(folder, &format!("wait:{at}"));
-    while under_way(folder).is_none() {
-        std::thread::sleep(Duration::from_millis(2));
-    }
+    let mut child = started(folder, &format!("wait:{at}"));
+    soon(&mut child, |_| under_way(folder));
     child
 }
 
@@ -131,11 +128,10 @@ fn a_file_that_changes_under_it_is_not_converted() {
     // a scan, an entry, the counter, and the length: by a program that does not ask for the lock
     for other in [changed(3 * 512 + 300), changed(512 + 20), changed(23), [&bytes[..], &[0; 512]].concat()] {
         fs::write(folder.join("f.sdd"), &bytes).unwrap();
-        let child = waiting(&folder, 1);
+        let mut child = waiting(&folder, 1);
         // once its scans are copied
-        while fs::read(under_way(&folder).unwrap()).unwrap().get(3 * 512..) != Some(&bytes[3 * 512..]) {
-            std::thread::sleep(Duration::from_millis(2));
-        }
+        let copied = |now: Vec<u8>| (now.get(3 * 512..) == Some(&bytes[3 * 512..])).then_some(());
+        soon(&mut child, |_| copied(fs::read(under_way(&folder)?).ok()?));
         fs::write(folder.join("f.sdd"), other).unwrap();
         let (status, said) = go_on(child);
         assert!(

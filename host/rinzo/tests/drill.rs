@@ -216,9 +216,7 @@ fn a_job_that_stops_itself_after_each_record() {
 #[test]
 fn a_job_that_is_killed_after_each_record() {
     let kill = |folder: &Path, cut: &Cut, written| {
-        let mut child = held(folder, &cut.words(), written);
-        child.kill().unwrap();
-        assert_eq!(child.wait().unwrap().signal(), Some(libc::SIGKILL));
+        assert_eq!(held(folder, &cut.words(), written).cut().signal(), Some(libc::SIGKILL));
     };
     each_cut("is_killed", kill, demand_three);
 }
@@ -421,7 +419,7 @@ fn a_job_has_the_file_alone() {
     let folder = folder("alone");
     busy_file(&folder);
     let name = scan_file(&folder, 512, 7);
-    let mut child = held(&folder, &["save", "f.sdd", "3", &name], 1);
+    let job = held(&folder, &["save", "f.sdd", "3", &name], 1);
     for words in [
         &["save", "f.sdd", "5", &name][..],
         &["keep", "f.sdd", &name],
@@ -435,8 +433,7 @@ fn a_job_has_the_file_alone() {
     // a reader waits for the job's end
     let reader = rinzo(&folder).args(["list", "f.sdd"]).stdout(Stdio::piped()).spawn().unwrap();
     std::thread::sleep(Duration::from_millis(100));
-    child.kill().unwrap();
-    child.wait().unwrap();
+    job.cut();
     let listed = reader.wait_with_output().unwrap();
     assert_eq!(String::from_utf8_lossy(&listed.stdout), "slots 16 used 9 scans 3\n1 4 5\n2 6 6\n9 7 9\n");
 }

@@ -2,7 +2,7 @@
 
 mod common;
 
-use common::{folder, paper_file, rinzo, run, scan_file, wrote};
+use common::{folder, paper_file, rinzo, run, scan_file, soon, takes, wrote};
 use sample::scan;
 use std::fs::{self, OpenOptions};
 use std::io::{BufRead, BufReader, Read};
@@ -147,6 +147,8 @@ fn a_second_ctrl_c_ends_it_at_once() {
     let name = file_with_a_scan(&folder);
     let mut job = waiting(&folder, &["save", "f.sdd", "1", &name, "--replace"], 1);
     job.interrupt();
+    // two of a kind that nobody has taken yet are one: the second comes when the first was taken, after which none is
+    soon(&mut job.child, |pid| (!takes(pid, libc::SIGINT)).then_some(()));
     std::thread::sleep(std::time::Duration::from_millis(100));
     assert!(job.child.try_wait().unwrap().is_none(), "the first one ended a job that was in the middle of something");
     job.interrupt();

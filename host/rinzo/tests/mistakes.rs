@@ -4,9 +4,8 @@ mod common;
 
 use common::{folder, paper_file, refused, rinzo, run, scan_file, wrote};
 use sample::scan;
-use std::fs::{self, File};
+use std::fs;
 use std::io::{Read, Write};
-use std::os::fd::{FromRawFd, OwnedFd};
 use std::path::Path;
 use std::process::{Output, Stdio};
 
@@ -90,14 +89,7 @@ fn a_scan_is_replaced_only_where_that_is_asked_for() {
 
 /// Runs the program with a terminal as its standard input, on which a person answers.
 fn answered(folder: &Path, words: &[&str], answer: &str) -> Output {
-    let (mut ours, mut theirs) = (0, 0);
-    // SAFETY: two numbers to be filled; the other pointers may be null.
-    let made = unsafe {
-        libc::openpty(&mut ours, &mut theirs, std::ptr::null_mut(), std::ptr::null_mut(), std::ptr::null_mut())
-    };
-    assert_eq!(made, 0, "no terminal");
-    // SAFETY: both were just opened, and are nobody else's.
-    let (mut ours, theirs) = unsafe { (File::from_raw_fd(ours), OwnedFd::from_raw_fd(theirs)) };
+    let (mut ours, theirs) = common::terminal();
     let mut command = rinzo(folder);
     let child = command.args(words).stdin(theirs).stdout(Stdio::piped()).stderr(Stdio::piped()).spawn().unwrap();
     drop(command);

@@ -6,12 +6,17 @@ use common::{folder, wrote};
 use std::path::Path;
 use std::process::{Command, Output};
 
-/// Runs a program that has to be there.
+/// Runs a program that has to be there, and that is ended where a minute is not enough for it.
 fn program(name: &str, package: &str, folder: &Path, words: &[&str]) -> Output {
-    let output = Command::new(name).args(words).current_dir(folder).env("HOME", folder).output();
-    output.unwrap_or_else(|error| {
-        panic!("{name} is needed to try the completions: install the package {package} ({error})")
-    })
+    let mut command = Command::new("timeout");
+    command.args(["--kill-after=5", "60", name]).args(words).current_dir(folder).env("HOME", folder);
+    let output = command.output().unwrap();
+    assert!(
+        output.status.code() != Some(127),
+        "{name} is needed to try the completions: install the package {package} ({})",
+        String::from_utf8_lossy(&output.stderr)
+    );
+    output
 }
 
 /// What it printed, where it ended well and complained of nothing.
@@ -72,7 +77,7 @@ fn zsh_completes() {
              zpty -r -m shell said '*{word}*'
              zpty -d shell"
         );
-        printed("timeout", "coreutils", &folder, &["60", "zsh", "-f", "-c", &script]);
+        printed("zsh", "zsh", &folder, &["-f", "-c", &script]);
     };
     ask("rinzo sa", "save");
     ask("rinzo list --lo", "--long");

@@ -2,42 +2,33 @@
 
 mod common;
 
-use common::{folder, rinzo, run, said, wrote};
+use common::{folder, rinzo, run, said, terminal, wrote};
 use std::fs::{self, File};
 use std::io::Read;
-use std::os::fd::FromRawFd;
 use std::os::unix::fs::FileExt;
 use std::path::Path;
 use std::process::Stdio;
-use std::ptr::{null, null_mut};
-
-/// A terminal: the end that a person has, and the end that a program has.
-fn terminal() -> (File, File) {
-    let (mut person, mut program) = (0, 0);
-    // SAFETY: two places for numbers of files, which are new and nobody else's.
-    unsafe {
-        assert_eq!(libc::openpty(&mut person, &mut program, null_mut(), null(), null()), 0);
-        (File::from_raw_fd(person), File::from_raw_fd(program))
-    }
-}
 
 /// What the program says on a terminal, as standard error, while standard output is a pipe.
 fn said_on_terminal(folder: &Path, words: &[&str]) -> String {
     said_with_input(folder, words, Stdio::null())
 }
 
-/// The same with something on standard input.
+/// The same with something on standard input. What it says is taken while it runs: a terminal that nobody reads is full at some time.
 fn said_with_input(folder: &Path, words: &[&str], input: Stdio) -> String {
     let (mut person, program) = terminal();
+    let reader = std::thread::spawn(move || {
+        let mut said = Vec::new();
+        // once the program's end is closed the terminal ends, which Linux calls an error
+        let _ = person.read_to_end(&mut said);
+        String::from_utf8(said).unwrap()
+    });
     let mut command = rinzo(folder);
     command.stdin(input);
     let child = command.args(words).stdout(Stdio::piped()).stderr(Stdio::from(program)).spawn().unwrap();
-    assert!(child.wait_with_output().unwrap().status.success());
     drop(command); // and with it the last hand on the program's end
-    let mut said = Vec::new();
-    // once the program's end is closed the terminal ends, which Linux calls an error
-    let _ = person.read_to_end(&mut said);
-    String::from_utf8(said).unwrap()
+    assert!(child.wait_with_output().unwrap().status.success());
+    reader.join().unwrap()
 }
 
 /// A file with 1,024 scans.

@@ -205,12 +205,11 @@ fn a_reader_that_waits_says_so() {
     let folder = folder("waits");
     paper_file(&folder);
     let name = scan_file(&folder, 512, 1);
-    let mut job = held(&folder, &["keep", "f.sdd", &name], 1);
+    let job = held(&folder, &["keep", "f.sdd", &name], 1);
     let mut reader = rinzo(&folder);
     let reader = reader.args(["list", "f.sdd"]).stdout(Stdio::piped()).stderr(Stdio::piped()).spawn().unwrap();
     std::thread::sleep(std::time::Duration::from_millis(900));
-    job.kill().unwrap();
-    job.wait().unwrap();
+    job.cut();
     let output = reader.wait_with_output().unwrap();
     assert!(output.status.success());
     assert_eq!(said(&output), "rinzo: another program works on f.sdd: waiting up to 10 seconds for its end\n");

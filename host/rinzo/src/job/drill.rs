@@ -2,12 +2,16 @@
 //!
 //! `RINZO_DRILL=stop:I` ends the process, as a power cut would, once I records
 //! are written (0: before the first). `RINZO_DRILL=pause:I` holds it there, to
-//! be ended from outside, and `RINZO_DRILL=wait:I` until its standard input
-//! ends. A conversion and a sweep count otherwise: 0 nothing is written, 1 all of it is,
-//! 2 it was compared. Without the variable this does nothing.
+//! be ended from outside within ten minutes, after which it ends as with `stop`,
+//! and `RINZO_DRILL=wait:I` until its standard input ends. A conversion and a
+//! sweep count otherwise: 0 nothing is written, 1 all of it is, 2 it was
+//! compared. Without the variable this does nothing.
 
 use crate::file::sys;
 use std::time::Duration;
+
+/// How long a job is held for somebody to end it.
+const PAUSE: Duration = Duration::from_secs(600);
 
 /// Where to stop, if the drill is on.
 pub struct Drill {
@@ -39,9 +43,10 @@ impl Way {
     fn hold(&self) {
         match self {
             Way::Stop => sys::stop_dead(),
-            Way::Pause => loop {
-                std::thread::sleep(Duration::from_secs(3600));
-            },
+            Way::Pause => {
+                std::thread::sleep(PAUSE);
+                sys::stop_dead()
+            }
             Way::Wait => {
                 let _ = std::io::copy(&mut std::io::stdin(), &mut std::io::sink());
             }
