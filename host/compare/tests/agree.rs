@@ -7,16 +7,24 @@ use compare::{Tally, seed_from_environment};
 /// How many calls are compared, unless `RINZO_CASES` says otherwise.
 const CASES: u64 = 500_000;
 
+/// How often the cases are run anew, from other seeds, as long as something rare has not come up.
+const RUNS: u64 = 5;
+
 /// Runs two processes at once, each with half of the cases and a seed of its own.
 fn agree(subject: &str, cases: u64) -> Tally {
     let seed = seed_from_environment();
     println!("{subject}: RINZO_SEED={seed}");
-    let halves = [seed, seed.wrapping_add(1)].map(|seed| common::start(&[subject], seed, cases / 2));
     let mut all = Tally::default();
-    for half in halves {
-        let ended = half.end();
-        assert!(ended.agreed, "{subject} and the model differ:\n{}", ended.said);
-        all.add_line(&ended.tally.line());
+    for run in 0..RUNS {
+        let halves = [2 * run, 2 * run + 1].map(|half| common::start(&[subject], seed.wrapping_add(half), cases / 2));
+        for half in halves {
+            let ended = half.end();
+            assert!(ended.agreed, "{subject} and the model differ:\n{}", ended.said);
+            all.add_line(&ended.tally.line());
+        }
+        if all.unreached().is_empty() {
+            break;
+        }
     }
     println!("{subject}: {all}");
     all
