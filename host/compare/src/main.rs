@@ -12,7 +12,7 @@ const USAGE: &str = "usage: compare library|plain|wrong NUMBER|record FILE [--se
   wrong N   the stand-in with its wrong line N
   record F  writes the cases and the model's answers to the file F
 
-Status: 0 every call agreed, 1 one did not, 86 memory outside what was lent was touched, 87 a call did not end
+Status: 0 every call agreed, 1 one did not, 86 memory outside what was lent was touched, 87 a round did not end
 within five minutes, 64 bad usage.";
 
 fn main() -> ExitCode {
@@ -21,7 +21,7 @@ fn main() -> ExitCode {
         eprintln!("{USAGE}");
         return ExitCode::from(64);
     };
-    say_where_on_a_fault();
+    say_where_on_a_fault(options.seed);
     match what {
         What::Calls(calls) => tell(run(&mut Linked::new(calls), &options)),
         What::Record(path) => {

@@ -94,12 +94,13 @@ fn theme_of(world: &mut World, round: u64, giants: bool) -> &'static Theme {
 /// The status with which a process ends whose subject touched a guard page.
 const FAULT: c_int = 86;
 
-/// The same for one that was in one round for so many seconds, where a round takes less than one: a call does not end.
+/// The same for one that was in one round for so many seconds, where the longest takes about one: a call does not end.
 const ENDLESS: c_int = 87;
 const MOST_SECONDS: u32 = 300;
 
-/// Has a touch of a guard page, and a round that does not end, say which round it is, and end the process.
-pub fn say_where_on_a_fault() {
+/// Has a touch of a guard page, and a round that does not end, say which round of this seed it is, and end the process.
+pub fn say_where_on_a_fault(seed: u64) {
+    SEED.store(seed, Relaxed);
     // SAFETY: the handlers only write and exit.
     unsafe {
         libc::signal(libc::SIGSEGV, fault as extern "C" fn(c_int) as usize);
@@ -113,7 +114,7 @@ extern "C" fn fault(_: c_int) {
 }
 
 extern "C" fn endless(_: c_int) {
-    end(b"a call did not end within five minutes: seed ", ENDLESS)
+    end(b"a round did not end within five minutes: seed ", ENDLESS)
 }
 
 /// Says what happened and in which round, and ends the process.

@@ -94,9 +94,9 @@ fn the_plain_stand_in_agrees_with_the_model() {
 
 #[test]
 fn a_call_that_does_not_end_is_told() {
-    let running = common::start(&["plain"], 5, u64::MAX);
+    let running = common::start(&["plain"], 5, 10_000_000);
     running.ring();
     let ended = running.end();
     assert_eq!(ended.status.code(), Some(87), "{}", ended.said);
-    assert!(ended.said.starts_with("a call did not end within five minutes: seed 5 round "), "{}", ended.said);
+    assert!(ended.said.starts_with("a round did not end within five minutes: seed 5 round "), "{}", ended.said);
 }

@@ -4,6 +4,7 @@ mod common;
 
 use compare::seed_from_environment;
 use plain::{Wrong, wrong_lines};
+use std::os::unix::process::ExitStatusExt;
 use std::sync::Mutex;
 
 /// A wrong line has to be noticed within so many calls.
@@ -36,12 +37,11 @@ fn every_wrong_line_is_noticed() {
 fn noticed(wrong: &Wrong, seed: u64) -> bool {
     let ended =
         common::start(&["wrong", &wrong.number.to_string()], seed.wrapping_add(u64::from(wrong.number)), CASES).end();
-    // a process that broke off has counted nothing
-    let how = match ended.status.code() {
-        Some(86) => "memory outside what was lent was touched".to_string(),
-        Some(87) => "a call did not end".to_string(),
-        Some(_) => format!("after {:>6} calls", ended.tally.cases()),
-        None => format!("its process ended with {}", ended.status),
+    // a process that broke off has counted nothing: it says where, or a signal has ended it
+    let how = match ended.status.signal() {
+        Some(_) => format!("its process ended with {}", ended.status),
+        None if ended.tally.cases() > 0 => format!("after {:>6} calls", ended.tally.cases()),
+        None => ended.said.trim().to_string(),
     };
     println!("  {:>3} {how}: {}", wrong.number, wrong.what);
     !ended.agreed

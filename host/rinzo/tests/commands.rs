@@ -411,9 +411,14 @@ fn a_read_only_file_is_read_and_not_changed() {
             command.gid(65_534).uid(65_534);
         }
         // a copy that was just written is busy while another test starts a program
+        let began = std::time::Instant::now();
         loop {
             match command.output() {
-                Err(error) if error.kind() == std::io::ErrorKind::ExecutableFileBusy => std::thread::yield_now(),
+                Err(error)
+                    if error.kind() == std::io::ErrorKind::ExecutableFileBusy && began.elapsed().as_secs() < 60 =>
+                {
+                    std::thread::yield_now()
+                }
                 other => return other.unwrap(),
             }
         }
