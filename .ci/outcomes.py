@@ -45,7 +45,7 @@ EQUATIONS = ("classes", "sdd")
 
 # An `ensures` that a predicate need not have, and why: fewer parts allow more outcomes, and still they are one.
 SPARED = {
-    "look::entry": {"kind_says result.entry.kind ≡ kind_says (found_of file.now slot).entry.kind": "the kind once more, by number and values: it is a field of that entry"},
+    "look::entry": {"kind_says (fields_in result).kind ≡ kind_says (fields_in (found_of file.now slot)).kind": "the kind once more, by number and values: it is a field of that entry"},
 }
 
 
@@ -117,7 +117,8 @@ def equations(t, names):
     if len(products) > 1:
         return [e for p in products for e in equations(p, names)]
     if isinstance(t[0], str) and t[0] in names:
-        return equations(put(names[t[0]], {"is": t[1], "x": t[2]}), names)
+        taking, body = names[t[0]]
+        return equations(put(body, dict(zip(taking, t[1:], strict=True))), names)
     return [[plain(side) for side in split(t, "≡")]]
 
 
@@ -130,7 +131,7 @@ ENSURES = re.compile(r"^ *ensures (?:[a-z_]+ )?\{ (.*) \}$", re.M)
 
 def fields(text):
     """The fields of `OneOutcome`: the names that each has for what it is about, and the equations of its predicate, of an outcome x."""
-    names = {n: term(b) for n, b in re.findall(r"^([A-Z]\w*) is x = (.*)$", text, re.M)}
+    names = {n: (taking.split(), term(b)) for n, taking, b in re.findall(r"^([A-Z]\w*) ((?:\w+ )*x) = (.*)$", text, re.M)}
     body = "\n".join(l for l in text[text.index("pub record OneOutcome") :].splitlines()[1:] if not l.lstrip().startswith("--"))
     found = {}
     for field in re.split(r"^  pub ", body, flags=re.M)[1:]:
@@ -210,7 +211,7 @@ CASES = (
     ("another definition in a field", "opened_says (open_of f)", "opened_says (boot_of f)", "OneOutcome open_file says what index::open does not promise: opened_says result ≡ opened_says (boot_of file.now)"),
     ("another direction's answer", "convert_of v f out", "convert_of 1 f out", "OneOutcome convert says what convert::to_old does not promise"),
     ("lent memory left out", " × (x.lent ≡ report_out f out)", "", "find::find promises what OneOutcome find does not say: out.new ≡ report_out file.now out.old"),
-    ("the job left out, by name", " × (x.job ≡ is.job)", "", "store::save promises what OneOutcome save_scan does not say: result.job ≡ (save_of"),
+    ("the job left out, by name", " × (job_in x ≡ job_in is)", "", "store::save promises what OneOutcome save_scan does not say: job_in result ≡ job_in (save_of"),
     ("two arguments changed about", "take_of k p row) x", "take_of k row p) x", "OneOutcome link_take says what link::take does not promise"),
     ("a part of another place", "bytes_on (span_place f s) at", "bytes_on (span_place f s) s", "OneOutcome parts says what look::show_part does not promise"),
     ("a field that is not there", "  pub gaps : (f : List ℕ) → Only (λ (x : Asked). asked_says x ≡ asked_says (gaps_of f))\n", "", "has no field gaps, which is to be of gaps::gaps_zero"),

@@ -12,9 +12,9 @@ STATEMENTS = ("Lib", "Known", "Numbers")
 #
 # A small reader of the part of the language that the definitions are written in. A node knows where its text stands in the file.
 
-TOKEN = re.compile(r"--[^\n]*|[(){};]|[^\s(){};]+")
+TOKEN = re.compile(r"--[^\n]*|[(){};,]|[^\s(){};,]+")
 # A field is written tight after what it is of: `z.n`, `j.run.first`, `(run s).first`. What a module's other name stands before, as
-# `step.Refused`, begins with a large letter and is one name.
+# `step.Wrote`, begins with a large letter and is one name.
 FIELDS = re.compile(r"^((?:[^\W\d]\w*)?)((?:\.[a-z]\w*)+)$")
 RIGHT, LEFT = "right", "left"
 LEVELS = [({"→"}, RIGHT), ({"×"}, RIGHT), ({"≡", "≤", "<"}, LEFT), ({"∷", "++"}, RIGHT), ({"+", "-"}, LEFT), ({"*", "/", "%"}, LEFT)]
@@ -22,7 +22,7 @@ OPERATORS = set().union(*(names for names, _ in LEVELS)) | {"=", ":"}
 
 
 class Node:
-    """kind is one of: name, number, call, field, chain, infix, record, lambda, bracket, binder."""
+    """kind is one of: name, number, call, field, chain, infix, record, lambda, bracket, pair, binder."""
 
     def __init__(self, kind, start, end, kids=(), **more):
         self.kind, self.start, self.end, self.kids = kind, start, end, list(kids)
@@ -78,7 +78,7 @@ class Reader:
 
     def call(self):
         parts = [self.projected()]
-        while self.peek() is not None and self.peek() not in OPERATORS and self.peek() not in (")", "}", ";"):
+        while self.peek() is not None and self.peek() not in OPERATORS and self.peek() not in (")", "}", ";", ","):
             parts.append(self.projected())
         return self.joined(parts)
 
@@ -114,6 +114,12 @@ class Reader:
             kind = self.expression()
             names = [n.name for n in (inside.kids if inside.kind == "call" else [inside])]
             return Node("binder", start, self.take()[2], names=names, of=(kind.start, kind.end))
+        parts = [inside]
+        while self.peek() == ",":
+            self.take()
+            parts.append(self.expression())
+        if len(parts) > 1:
+            inside = Node("pair", parts[0].start, parts[-1].end, parts)
         return Node("bracket", start, self.take()[2], [inside])
 
     def record(self, start):
@@ -178,6 +184,8 @@ class Module:
     def clause(self, name, patterns, signature, start, end, house):
         node = Reader(self.text, start, end).whole()
         kinds, scope = arrows(signature), {}
+        if kinds == ["Type 0"]:
+            return  # another name for a type
         for pattern, kind in zip(atoms(patterns), kinds):
             scope.update(house.bound(pattern, kind))
         group = "facts" if kinds[-1].startswith("Type") else "definitions"
@@ -210,16 +218,26 @@ def scope_of(binders):
 
 def arrows(kind):
     """A type, taken apart at its outer arrows."""
-    kind = kind.strip()
-    while kind.startswith("(") and closes(kind) == len(kind) - 1:
-        kind = kind[1:-1].strip()
+    return outer(bared(kind), "→")
+
+
+def outer(text, mark):
+    """A text, taken apart at each mark that stands in no brackets."""
     parts, depth, last = [], 0, 0
-    for i, c in enumerate(kind):
+    for i, c in enumerate(text):
         depth += (c in "({") - (c in ")}")
-        if c == "→" and depth == 0:
-            parts.append(kind[last:i].strip())
+        if c == mark and depth == 0:
+            parts.append(text[last:i].strip())
             last = i + 1
-    return parts + [kind[last:].strip()]
+    return parts + [text[last:].strip()]
+
+
+def bared(text):
+    """Without the brackets around all of it."""
+    text = text.strip()
+    while text.startswith("(") and closes(text) == len(text) - 1:
+        text = text[1:-1].strip()
+    return text
 
 
 def closes(text):
@@ -246,7 +264,7 @@ class House:
     """The types of the functions, the records and the cases: enough to pass over changes that cannot be definitions at all."""
 
     def __init__(self, crates):
-        self.types, self.records, self.cases = dict(LIBRARY), {}, {}
+        self.types, self.records, self.cases, self.names = dict(LIBRARY), {}, {}, {}
         for crate in (*BELOW, CHANGED):
             for path in sorted((crates / crate / "specs").glob("*.antt")):
                 self.signatures(path.read_text(encoding="utf-8"))
@@ -258,23 +276,39 @@ class House:
             self.types[name] = re.sub(r"^\{[^}]*\} → ", "", " ".join(kind.split()))
         for name, body in re.findall(r"^pub record (\S+).*where\n((?:  .*\n?)+)", text, re.M):
             self.records[name] = dict(re.findall(r"^  pub (\S+) : (.*)$", body, re.M))
+        self.names.update(re.findall(r"^abbrev pub (\w+) : Type 0\n\1 = (.*)$", text, re.M))
 
     def declared(self, text):
         for name, body in re.findall(r"pub struct (\w+) \{(.*?)\n\}", text, re.S):
-            self.records[name] = {field: antt(kind) for field, kind in re.findall(r"pub (\w+): ([^,]+),", body)}
+            self.records[name] = {field: antt(kind) for field, kind in re.findall(r"pub (\w+): (.+),$", body, re.M)}
         for name, body in re.findall(r"pub enum (\w+) \{(.*?)\n\}", text, re.S):
             self.cases[name] = {case: [antt(k) for k in kinds.split(",") if k] for case, kinds in re.findall(r"(\w+)(?:\(([^)]*)\))?,", body)}
             self.types.update({case: " → ".join(kinds + [name]) for case, kinds in self.cases[name].items()})
 
     def bound(self, pattern, kind):
         """What a pattern's variables are."""
-        inner = pattern.strip("()").split()
+        kind = self.names.get(kind, kind)
+        pattern, kind = bared(pattern), bared(kind)
+        if len(parts := outer(pattern, ",")) > 1:
+            return self.each(parts, outer(kind, "×"))
+        inner = atoms(pattern)
         if len(inner) == 1:
             return {pattern: kind}
         if "∷" in inner:
             return {inner[0]: kind.removeprefix("List "), inner[-1]: kind}
-        kinds = self.cases.get(kind, {}).get(inner[0].split(".")[-1], ["ℕ"] * len(inner))
-        return dict(zip(inner[1:], kinds))
+        case = inner[0].split(".")[-1]
+        if kind.split()[0] in ("Result", "Option"):
+            of = atoms(kind)
+            kinds = {"Ok": of[1:2], "Some": of[1:2], "Err": of[2:]}[case]
+        else:
+            kinds = self.cases.get(kind, {}).get(case, ["ℕ"] * len(inner))
+        return self.each(inner[1:], kinds)
+
+    def each(self, patterns, kinds):
+        scope = {}
+        for pattern, kind in zip(patterns, kinds):
+            scope.update(self.bound(pattern, kind))
+        return scope
 
     def kind(self, node, scope):
         """The type of an expression, or nothing where this cannot be told."""
@@ -300,6 +334,8 @@ class House:
 
 def antt(kind):
     kind = kind.strip()
+    if m := re.match(r"Result<(\w+), (\w+)>$", kind):
+        return f"Result {antt(m[1])} {antt(m[2])}"
     return "List ℕ" if kind.startswith("[") else NUMBERS.get(kind) or OTHERS.get(kind) or kind
 
 
@@ -415,6 +451,12 @@ class Maker:
             known = kinds[i] and kinds[i + 1]
             if kinds[i] == kinds[i + 1] if known else len(asked) < i + 2 or asked[i] == asked[i + 1]:
                 self.swap("arguments", args[i], args[i + 1], frame)
+
+    def at_pair(self, node, frame):
+        for a, b in zip(node.kids, node.kids[1:]):
+            kinds = self.kind(a), self.kind(b)
+            if kinds[0] == kinds[1] or not all(kinds):
+                self.swap("arguments", a, b, frame)
 
     def at_record(self, node, frame):
         for (a, b), (m, n) in zip(zip(node.kids, node.kids[1:]), zip(node.names, node.names[1:])):

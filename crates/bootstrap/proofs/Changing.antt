@@ -1,4 +1,5 @@
 -- A file that is to be changed: the test of refusal 2, and what it comes to for the judgements.
+use Rattle.std.specs.Prelude.{Err}
 use Prim.Native.Nat.{ℕ, ◌≤◌, ◌<◌}
 use mathlib.Core.Path.{◌≡◌, sym, ◌∙◌}
 use mathlib.Core.Bool.{Bool, true, false}
@@ -8,8 +9,7 @@ use lib.Dec.{leb, eqb}
 use lib.ListN.{length}
 use Rattle.lent.proofs.Lists.{also-true, true-also, true≢false}
 use Rattle.paper.specs.declared.refusal.Refusal.TheVariants.{OldForm}
-use Rattle.paper.specs.declared.answer.Opened.{Opened}
-use Rattle.paper.specs.declared.answer.Opened.TheVariants.{Refused}
+use Rattle.paper.specs.Answers.{Opened}
 use Rattle.paper.specs.Sizes.{version_of}
 use Rattle.paper.specs.Index.{boot_of, open_of, change_boot_of, change_of}
 use Rattle.paper.proofs.Opening.{old-boot, other_boot, old-file, other-file}
@@ -35,13 +35,13 @@ module _ (f : List ℕ) where
 
   -- one law for each return
   module _ {b : Bool} (test : b ≡ is_old f) where
-    pub boot_old : b ≡ true → Refused OldForm ≡ change_boot_of f
+    pub boot_old : b ≡ true → Err OldForm ≡ change_boot_of f
     boot_old e = let p = is-old (sym test ∙ e) in sym (old-boot f p.0 p.1)
 
     pub boot-on : b ≡ false → {r : Opened} → r ≡ boot_of f → r ≡ change_boot_of f
     boot-on e h = h ∙ sym (other_boot f (not-old (sym test ∙ e)))
 
-    pub change-old : b ≡ true → Refused OldForm ≡ change_of f
+    pub change-old : b ≡ true → Err OldForm ≡ change_of f
     change-old e = let p = is-old (sym test ∙ e) in sym (old-file f p.0 p.1)
 
     pub change-on : b ≡ false → {r : Opened} → r ≡ open_of f → r ≡ change_of f

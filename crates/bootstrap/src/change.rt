@@ -3,25 +3,22 @@ ghost use Rattle.std.specs.Prelude.{◌≡◌};
 ghost use Rattle.paper.specs.Index.{change_boot_of};
 ghost use Rattle.bootstrap.specs.Old.{is_old};
 
-use paper::answer::Opened;
 use paper::refusal::Refusal;
+use paper::sizes::Sizes;
 
 // The file is long enough to tell, and has the old form.
 pub fn old(file: &[u8]) -> bool
     ensures { result ≡ is_old file.now }
 {
-    if file.len() < 512 {
-        return false;
-    }
-    lent::read::word32(file, 28) == 0
+    512 <= file.len() && lent::read::word32(file, 28) == 0
 }
 
 // The judgement of the bootstrap of a file that is to be changed: 2 stands after 1 and before the others.
-pub fn boot(file: &[u8]) -> Opened
+pub fn boot(file: &[u8]) -> Result<Sizes, Refusal>
     ensures { result ≡ change_boot_of file.now }
 {
     if old(file) {
-        return Opened::Refused(Refusal::OldForm);
+        return Err(Refusal::OldForm);
     }
     super::judge::boot(file)
 }

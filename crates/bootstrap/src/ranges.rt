@@ -8,34 +8,19 @@ use paper::sizes::Sizes;
 pub fn shaped(z: Sizes) -> bool
     ensures { result ≡ shaped z }
 {
-    let n = z.n;
-    let l = z.l;
-    let m = z.m;
-    if n < Sizes::MIN_N {
+    if !(Sizes::MIN_N..=Sizes::MAX_N).contains(&z.n) {
         return false;
     }
-    if Sizes::MAX_N < n {
+    if !(Sizes::MIN_L..=Sizes::MAX_L).contains(&z.l) {
         return false;
     }
-    if l < Sizes::MIN_L {
+    if !(Sizes::MIN_M..=z.l).contains(&z.m) {
         return false;
     }
-    if Sizes::MAX_L < l {
+    if z.l % z.m != 0 {
         return false;
     }
-    if m < Sizes::MIN_M {
-        return false;
-    }
-    if l < m {
-        return false;
-    }
-    if l % m != 0 {
-        return false;
-    }
-    if Sizes::MAX_SLOTS < (n - 1) * l / m {
-        return false;
-    }
-    true
+    (z.n - 1) * z.l / z.m <= Sizes::MAX_SLOTS
 }
 
 // So are D, U and the type.
@@ -51,8 +36,5 @@ pub fn in_range(z: Sizes) -> bool
     if z.capacity() < z.u {
         return false;
     }
-    if Sizes::MAX_KIND < z.kind {
-        return false;
-    }
-    true
+    z.kind <= Sizes::MAX_KIND
 }

@@ -7,7 +7,7 @@ ghost use Rattle.paper.specs.Refusals.{span_says};
 ghost use Rattle.paper.specs.Scan.{class_of, part_of, span_place};
 ghost use Rattle.classes.specs.Walk.{next_of};
 
-use paper::answer::Span;
+use paper::refusal::Refusal;
 use scan::preamble;
 
 #[derive(Clone, Copy)]
@@ -24,7 +24,7 @@ pub fn new<'a>(scan: &'a [u8]) -> Reader<'a>
 }
 
 // Where the class lies at which the reader stands.
-pub fn here<'a>(r: Reader<'a>) -> Span
+pub fn here<'a>(r: Reader<'a>) -> Result<(usize, usize), Refusal>
     ensures { span_says result ≡ span_says (class_of r.entry.scan.now r.entry.number) }
 {
     scan::class(r.scan, r.number)
@@ -39,6 +39,7 @@ pub fn bytes<'a>(r: Reader<'a>) -> &'a [u8]
 }
 
 // The number after a class's; past the last class it stays.
+#[tactic(auto, unfolding(crate::specs::Walk::next_of))]
 pub fn following(scan: &[u8], number: usize) -> usize
     ensures { result ≡ next_of scan.now number }
 {
@@ -61,7 +62,7 @@ pub fn after<'a>(r: Reader<'a>) -> Reader<'a>
 }
 
 // The first class, by a reader. Whoever calls this one needs no walk.
-pub fn first(scan: &[u8]) -> Span
+pub fn first(scan: &[u8]) -> Result<(usize, usize), Refusal>
     ensures { span_says result ≡ span_says (class_of scan.now 1) }
 {
     here(new(scan))

@@ -48,6 +48,13 @@ module _ (f : List ℕ) (z : Sizes) (s at x : ℕ) (home : at ≡ home_of z s) (
 
 -- ---- all slots
 
+-- what a loop over them found, as the test that there is one
+pub some-found : (n i : ℕ) → n ≡ i + 1 → true ≡ ltb 0 n
+some-found n i e = sym (lt-ltb 0 n (omega arith))
+
+pub none-found : (n : ℕ) → n ≡ 0 → false ≡ ltb 0 n
+none-found n e = sym (le-ltb 0 n (omega arith))
+
 -- a run that is empty or ends in the data section
 lies-narrow : (z : Sizes) (r : Run) → z.n + z.d ≤ 32767 → Lies z r → (r.first ≤ 32767) × (r.last ≤ 32767)
 lies-narrow z r h l =
@@ -98,12 +105,12 @@ module _ (v : ℕ) (f : List ℕ) (z : Sizes) where
 -- ---- going old
 
 module _ (f : List ℕ) (z : Sizes) (S : Sound f z) (b : Bool) (test : b ≡ ltb 0 (least (wide_run (run_of f z)) z.u)) where
-  pub old-wide : b ≡ true → false ≡ fits_form 0 f z
+  old-wide : b ≡ true → false ≡ fits_form 0 f z
   old-wide e =
       form-no 0 f z S
       (λ o A. true≢false (sym test ∙ e) (none-test (wide_run (run_of f z)) z.u (λ s l h t. true≢false t (facts-narrow (run_of f z) s (A.narrow refl s l h)))))
 
-  pub old-fits : z.version ≡ 1 → z.kind ≡ 0 → z.d ≤ 32767 → z.counter ≤ 65535 → b ≡ false → true ≡ fits_form 0 f z
+  old-fits : z.version ≡ 1 → z.kind ≡ 0 → z.d ≤ 32767 → z.counter ≤ 65535 → b ≡ false → true ≡ fits_form 0 f z
   old-fits v k d n e =
       form-yes 0 f z (λ h. omega arith)
       (record {
@@ -114,24 +121,33 @@ module _ (f : List ℕ) (z : Sizes) (S : Sound f z) (b : Bool) (test : b ≡ ltb
         narrow = λ w s l h. narrow-facts (run_of f z) s (not_so (test-none (wide_run (run_of f z)) z.u (sym test ∙ e) s l h));
       })
 
+pub old-told : (f : List ℕ) (z : Sizes) → Sound f z → (b : Bool) → b ≡ ltb 0 (least (wide_run (run_of f z)) z.u) → z.version ≡ 1 → z.kind ≡ 0
+    → z.d ≤ 32767 → z.counter ≤ 65535 → not b ≡ fits_form 0 f z
+old-told f z S true q v k d n = old-wide f z S true q refl
+old-told f z S false q v k d n = old-fits f z S false q v k d n refl
+
 -- ---- going to the current form
 
-module _ (f : List ℕ) (z : Sizes) (S : Sound f z) (k : ℕ) (found : k ≡ least (other_magic f z) z.u) where
-  pub current-other : (k ≡ 0 → ⊥) → false ≡ fits_form 1 f z
+module _ (f : List ℕ) (z : Sizes) (S : Sound f z) (b : Bool) (test : b ≡ ltb 0 (least (other_magic f z) z.u)) where
+  current-other : b ≡ true → false ≡ fits_form 1 f z
   current-other h =
       form-no 1 f z S
       (λ o A.
       let e = none-test (other_magic f z) z.u (λ s l m t. true≢false t (facts-magic f z s (A.magics s l m))) in
-      true≢false (lt-ltb 0 (least (other_magic f z) z.u) (omega arith)) e)
+      true≢false (sym test ∙ h) e)
 
-  pub current-fits : z.version ≡ 0 → z.kind ≡ 0 → k ≡ 0 → true ≡ fits_form 1 f z
-  current-fits v t e =
-      let q : ltb 0 (least (other_magic f z) z.u) ≡ false = le-ltb 0 (least (other_magic f z) z.u) (omega arith) in
+  current-yes : z.version ≡ 0 → z.kind ≡ 0 → b ≡ false → true ≡ fits_form 1 f z
+  current-yes v t e =
       form-yes 1 f z (λ h. omega arith)
       (record {
         data_type = t;
-        magics = λ s l h. magic-facts f z s (not_so (test-none (other_magic f z) z.u q s l h));
+        magics = λ s l h. magic-facts f z s (not_so (test-none (other_magic f z) z.u (sym test ∙ e) s l h));
         few = λ h. absurd (omega arith);
         counted = λ h. absurd (omega arith);
         narrow = λ h. absurd (omega arith);
       })
+
+pub current-fits : (f : List ℕ) (z : Sizes) → Sound f z → (b : Bool) → b ≡ ltb 0 (least (other_magic f z) z.u) → z.version ≡ 0 → z.kind ≡ 0
+    → not b ≡ fits_form 1 f z
+current-fits f z S true q v t = current-other f z S true q refl
+current-fits f z S false q v t = current-yes f z S false q v t refl

@@ -14,9 +14,8 @@ fn middle(file: &[u8], from: usize) -> [u8; 52]
     requires { from + 52 ≤ length file.now }
     ensures { result ≡ part from (from + 52) file.now }
 {
-    let to = from + 52;
     let mut b = [0u8; 52];
-    lent::write::copy(&mut b, &file[from..to]);
+    b.copy_from_slice(&file[from..from + 52]);
     b
 }
 

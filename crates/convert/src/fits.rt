@@ -2,124 +2,93 @@
 ghost use Rattle.std.specs.Prelude.{◌≡◌, ◌≤◌, ltb};
 ghost use Rattle.lent.specs.Lists.{all};
 ghost use Rattle.lent.specs.Least.{least};
-ghost use Rattle.paper.specs.Index.{run_of, Booted, Sound};
+ghost use Rattle.paper.specs.Sizes.{capacity_of};
+ghost use Rattle.paper.specs.Index.{run_of, Sound};
 ghost use Rattle.paper.specs.Convert.{narrow_tests, wide_run, other_magic};
-ghost use Rattle.entries.specs.Row.{InFile};
 ghost use Rattle.convert.specs.Going.{fits_form};
 
-use paper::sizes::{Run, Sizes};
+use entries::file::File;
+use paper::sizes::Run;
 
 // Neither first nor last is above 32,767.
 fn narrow(a: Run) -> bool
     ensures { result ≡ all (narrow_tests a) }
 {
-    if 32767 < a.first {
-        return false;
-    }
-    if 32767 < a.last {
-        return false;
-    }
-    true
+    a.first <= 32767 && a.last <= 32767
 }
 
-// The lowest slot up to U with a first or a last above 32,767, or 0.
-fn lowest_wide(file: &[u8], z: Sizes) -> usize
-    requires { Booted file.now z }
-    ensures { result ≡ least (wide_run (run_of file.now z)) z.u }
+// Some slot up to U has a first or a last above 32,767.
+fn any_wide(file: File) -> bool
+    ensures { result ≡ ltb 0 (least (wide_run (run_of file.entry.bytes.now file.entry.z)) file.entry.z.u) }
 {
-    let u = z.u;
-    let mut i = 0;
-    while i < u {
-        let a = entries::row::run_at(file, z, i + 1);
+    for i in 0..file.z.u {
+        let a = file.run_at(i + 1);
         if !narrow(a) {
-            return i + 1;
+            return true;
         }
-        i += 1;
     }
-    0
+    false
 }
 
-// Whether there is one. A run ends in the data section, so that a file of no more records is not gone through.
-fn wide(file: &[u8], z: Sizes) -> bool
-    requires { Sound file.now z }
-    ensures { result ≡ ltb 0 (least (wide_run (run_of file.now z)) z.u) }
+// The same. A run ends in the data section, so that a file of no more records is not gone through.
+fn wide(file: File) -> bool
+    requires { Sound file.bytes.now file.z }
+    ensures { result ≡ ltb 0 (least (wide_run (run_of file.entry.bytes.now file.entry.z)) file.entry.z.u) }
 {
-    if z.n + z.d <= 32767 {
-        return false;
-    }
-    0 < lowest_wide(file, z)
+    32767 < file.z.n + file.z.d && any_wide(file)
 }
 
 // Slot `s` of an old file holds a scan of another magic than 2. An empty entry's is not asked, and most others have it: the run is looked at last.
-fn other_magic(file: &[u8], z: Sizes, s: usize) -> bool
-    requires { InFile file.now z s × (z.version ≡ 0) }
-    ensures { result ≡ other_magic file.now z s }
+fn other_magic(file: File, s: usize) -> bool
+    requires { (1 ≤ s) × (s ≤ capacity_of file.z) × (file.z.version ≡ 0) }
+    ensures { result ≡ other_magic file.entry.bytes.now file.entry.z s }
 {
-    let at = z.home(s);
-    if lent::read::load16(file, at + 4) == 2 {
-        return false;
-    }
-    let a = entries::row::run_at(file, z, s);
-    !entries::entry::empty(a)
+    let at = file.z.home(s);
+    lent::read::load16(file.bytes, at + 4) != 2 && !entries::entry::empty(file.run_at(s))
 }
 
-// The lowest slot of an old file up to U that does, or 0.
-fn lowest_other(file: &[u8], z: Sizes) -> usize
-    requires { Booted file.now z × (z.version ≡ 0) }
-    ensures { result ≡ least (other_magic file.now z) z.u }
+// Some slot of an old file up to U does.
+fn any_other(file: File) -> bool
+    requires { file.z.version ≡ 0 }
+    ensures { result ≡ ltb 0 (least (other_magic file.entry.bytes.now file.entry.z) file.entry.z.u) }
 {
-    let u = z.u;
-    let mut i = 0;
-    while i < u {
-        if other_magic(file, z, i + 1) {
-            return i + 1;
+    for i in 0..file.z.u {
+        if other_magic(file, i + 1) {
+            return true;
         }
-        i += 1;
     }
-    0
+    false
 }
 
 // A current file of type 0, going old: D, the counter and each run.
-fn fits_old(file: &[u8], z: Sizes) -> bool
-    requires { Sound file.now z × (z.version ≡ 1) × (z.kind ≡ 0) }
-    ensures { result ≡ fits_form 0 file.now z }
+fn fits_old(file: File) -> bool
+    requires { Sound file.bytes.now file.z × (file.z.version ≡ 1) × (file.z.kind ≡ 0) }
+    ensures { result ≡ fits_form 0 file.entry.bytes.now file.entry.z }
 {
-    if 32767 < z.d {
+    if 32767 < file.z.d || 65535 < file.z.counter {
         return false;
     }
-    if 65535 < z.counter {
-        return false;
-    }
-    if wide(file, z) {
-        return false;
-    }
-    true
+    !wide(file)
 }
 
 // An old file, going to the current form: each magic.
-fn fits_current(file: &[u8], z: Sizes) -> bool
-    requires { Sound file.now z × (z.version ≡ 0) × (z.kind ≡ 0) }
-    ensures { result ≡ fits_form 1 file.now z }
+fn fits_current(file: File) -> bool
+    requires { Sound file.bytes.now file.z × (file.z.version ≡ 0) × (file.z.kind ≡ 0) }
+    ensures { result ≡ fits_form 1 file.entry.bytes.now file.entry.z }
 {
-    if lowest_other(file, z) != 0 {
-        return false;
-    }
-    true
+    !any_other(file)
 }
 
 // All of 19, in its order.
-pub fn fits(file: &[u8], z: Sizes, v: usize) -> bool
-    requires { Sound file.now z × (v ≤ 1) }
-    ensures { result ≡ fits_form v file.now z }
+pub fn fits(file: File, v: usize) -> bool
+    requires { Sound file.bytes.now file.z × (v ≤ 1) }
+    ensures { result ≡ fits_form v file.entry.bytes.now file.entry.z }
 {
-    if z.version == v {
-        return false;
-    }
-    if z.kind == 1 {
+    if file.z.version == v || file.z.kind == 1 {
         return false;
     }
     if v == 0 {
-        return fits_old(file, z);
+        return fits_old(file);
     }
-    fits_current(file, z)
+    fits_current(file)
 }

@@ -5,7 +5,7 @@ ghost use Rattle.std.specs.Prelude.{◌≡◌};
 ghost use Rattle.paper.specs.Refusals.{taken_says};
 ghost use Rattle.paper.specs.Convert.{convert_of, converted_out};
 
-use paper::answer::Taken;
+use paper::refusal::Refusal;
 
 mod entry;
 mod fits;
@@ -13,7 +13,7 @@ mod judged;
 mod records;
 
 // An old file in the current form: `out` then begins with its N records, and all after them is as it was.
-pub fn to_current(file: &[u8], out: &mut [u8]) -> Taken
+pub fn to_current(file: &[u8], out: &mut [u8]) -> Result<(), Refusal>
     ensures result_value { taken_says result ≡ taken_says (convert_of 1 file.now out.old) }
     ensures out_after { out.new ≡ converted_out 1 file.now out.old }
 {
@@ -21,7 +21,7 @@ pub fn to_current(file: &[u8], out: &mut [u8]) -> Taken
 }
 
 // A current file in the old form.
-pub fn to_old(file: &[u8], out: &mut [u8]) -> Taken
+pub fn to_old(file: &[u8], out: &mut [u8]) -> Result<(), Refusal>
     ensures result_value { taken_says result ≡ taken_says (convert_of 0 file.now out.old) }
     ensures out_after { out.new ≡ converted_out 0 file.now out.old }
 {

@@ -48,12 +48,9 @@ fn put_entries(file: &[u8], z: Sizes, v: usize, out: &mut [u8])
     requires { Convertible v file.now out.old z × (v ≤ 1) }
     ensures { out.new ≡ write out.old z.l (entries_as v z.m (carried_at file.now z) z.u) }
 {
-    let u = z.u;
-    lent::write::zero_to(&mut *out, z.l, u * z.m);
-    let mut i = 0;
-    while i < u {
+    lent::write::zero_to(&mut *out, z.l, z.u * z.m);
+    for i in 0..z.u {
         super::entry::put_entry(file, z, v, i + 1, &mut *out);
-        i += 1;
     }
 }
 

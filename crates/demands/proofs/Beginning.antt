@@ -1,4 +1,5 @@
 -- Demand 2, of a beginning, and of what record 1 says along a job.
+use Rattle.std.specs.Prelude.{Ok}
 use Prim.Native.Nat.{ℕ, suc, ◌+◌, ◌-◌, ◌%◌, ◌≤◌, ◌<◌, max}
 use mathlib.Core.Path.{◌≡◌, refl, sym, ◌∙◌, ap, subst}
 use mathlib.Core.Bool.{Bool, true, false, not, cond}
@@ -14,13 +15,12 @@ use Rattle.lent.proofs.Greatests.{greatest-highest}
 use Rattle.lent.proofs.Lists.{lt-or-ge, true≢false}
 use Rattle.paper.specs.declared.sizes.Sizes.{Sizes}
 use Rattle.paper.specs.declared.sizes.Run.{Run}
-use Rattle.paper.specs.declared.answer.Opened.TheVariants.{Opens}
 use Rattle.paper.specs.declared.job.Job.{Job}
-use Rattle.paper.specs.declared.job.Begun.{Begun}
+use Rattle.paper.specs.Answers.{Begun}
 use Rattle.paper.specs.Sizes.{sizes_of, renewed, capacity_of, room_of}
 use Rattle.paper.specs.Index.{run_of, empty, Full, open_of, Lies}
 use Rattle.paper.specs.Look.{InIndex}
-use Rattle.paper.specs.Store.{records_for, free_at, free_place, empty_slot, highest, many_of, place_for, save_job, clear_job, keep_slot, save_of, keep_of, clear_of, count_of, counter_after, sizes_after, entry_after, change_of}
+use Rattle.paper.specs.Store.{records_for, free_at, free_place, empty_slot, highest, many_of, place_for, save_job, clear_job, keep_slot, save_of, keep_of, clear_of, count_of, counter_after, sizes_after, entry_after, change_of, job_in}
 use Rattle.paper.proofs.Opening.{empty-facts, full-facts, inside-all, open-sound, sound-open}
 use Rattle.paper.proofs.Rules.{keeps-lengths}
 use Rattle.paper.proofs.Encoding.{stated_by, zeros-state}
@@ -35,7 +35,7 @@ use Rattle.demands.proofs.Start.{Starts, starts, accepts, steps-are}
 use Rattle.demands.proofs.Refusing.{run-free, free-run}
 
 -- the place is the lowest of those that are free
-place-lowest : (f scan : List ℕ) → open_of f ≡ Opens (sizes_of f) → 256 ≤ length scan → (place_for f (length scan) ≡ 0 → ⊥)
+place-lowest : (f scan : List ℕ) → open_of f ≡ Ok (sizes_of f) → 256 ≤ length scan → (place_for f (length scan) ≡ 0 → ⊥)
     → (r : ℕ) → FreeRun f (sizes_of f) (records_for (sizes_of f) (length scan)) r → place_for f (length scan) ≤ r
 unfolding free_place
 place-lowest f scan o long ne r h =
@@ -51,7 +51,7 @@ carries : (run : Run) (z : Sizes) → Lies z run → (j : Job) → j.old ≡ run
 carries run z l j p q =
     record { held = λ h. (p, omega (arith, l.low h, l.order h)); nothing = λ h. (omega arith, omega arith) }
 
-save-job-is : (f : List ℕ) (slot : ℕ) (scan about : List ℕ) → open_of f ≡ Opens (sizes_of f) → InIndex (sizes_of f) slot → Placed f scan → SaveJob f slot scan about (save_job f slot scan about)
+save-job-is : (f : List ℕ) (slot : ℕ) (scan about : List ℕ) → open_of f ≡ Ok (sizes_of f) → InIndex (sizes_of f) slot → Placed f scan → SaveJob f slot scan about (save_job f slot scan about)
 save-job-is f slot scan about o i p =
     let long = (keeps-lengths p.keeps).long in
     record {
@@ -82,14 +82,14 @@ begins =
     record {
       save-job = λ f slot scan about e.
           let t = save-taken f slot scan about e in
-          subst (λ (b : Begun). SaveJob f slot scan about b.job) (sym (taken-save f slot scan about t)) (save-job-is f slot scan about (sound-open t.may.sound) t.slotted t.placed);
+          subst (λ (b : Begun). SaveJob f slot scan about (job_in b)) (sym (taken-save f slot scan about t)) (save-job-is f slot scan about (sound-open t.may.sound) t.slotted t.placed);
       keep_job = λ f scan about e.
           let t = keep_taken f scan about e in
-          subst (λ (b : Begun). SaveJob f b.job.slot scan about b.job × LowestEmpty f b.job.slot) (sym (taken-keep f scan about t))
+          subst (λ (b : Begun). SaveJob f (job_in b).slot scan about (job_in b) × LowestEmpty f (job_in b).slot) (sym (taken-keep f scan about t))
           (save-job-is f (keep_slot f) scan about (sound-open t.may.sound) (keep-slotted f t.slotted) t.placed, lowest-empty f t.slotted);
       clear-job = λ f slot e.
           let t = clear-is-taken f slot e in
-          subst (λ (b : Begun). ClearJob f slot b.job) (sym (taken-is-clear f slot t))
+          subst (λ (b : Begun). ClearJob f slot (job_in b)) (sym (taken-is-clear f slot t))
           (record {
             fresh = record { slot_is = refl; size_is = refl; span_is = refl; none_written = refl; begun_on = refl };
             clears = refl;
@@ -107,22 +107,22 @@ begins =
 abbrev grown_by : List ℕ → Sizes → ℕ → Job → Sizes
 grown_by f z d j = renewed z d (max (highest f z) j.slot) ((z.counter + 1) % 4294967296)
 
-sizes-are : (f : List ℕ) (z : Sizes) (op : Op) → takes f op ≡ true → sizes_after f z (begin f op).job ≡ grown f z op
+sizes-are : (f : List ℕ) (z : Sizes) (op : Op) → takes f op ≡ true → sizes_after f z (job_in (begin f op)) ≡ grown f z op
 sizes-are f z (save slot scan about) e =
-    let t = save-taken f slot scan about (accepts (save_of f slot scan about).answer e) in
-    subst (λ (b : Begun). sizes_after f z b.job ≡ grown_by f z (max z.d (b.job.first + records_for z (length scan) - 1 - z.n)) b.job)
+    let t = save-taken f slot scan about (accepts (save_of f slot scan about) e) in
+    subst (λ (b : Begun). sizes_after f z (job_in b) ≡ grown_by f z (max z.d ((job_in b).first + records_for z (length scan) - 1 - z.n)) (job_in b))
     (sym (taken-save f slot scan about t)) refl
 sizes-are f z (keep scan about) e =
-    let t = keep_taken f scan about (accepts (keep_of f scan about).answer e) in
-    subst (λ (b : Begun). sizes_after f z b.job ≡ grown_by f z (max z.d (b.job.first + records_for z (length scan) - 1 - z.n)) b.job)
+    let t = keep_taken f scan about (accepts (keep_of f scan about) e) in
+    subst (λ (b : Begun). sizes_after f z (job_in b) ≡ grown_by f z (max z.d ((job_in b).first + records_for z (length scan) - 1 - z.n)) (job_in b))
     (sym (taken-keep f scan about t)) refl
 sizes-are f z (clear slot) e =
-    let t = clear-is-taken f slot (accepts (clear_of f slot).answer e) in
-    subst (λ (b : Begun). sizes_after f z b.job ≡ grown_by f z z.d b.job) (sym (taken-is-clear f slot t)) refl
+    let t = clear-is-taken f slot (accepts (clear_of f slot) e) in
+    subst (λ (b : Begun). sizes_after f z (job_in b) ≡ grown_by f z z.d (job_in b)) (sym (taken-is-clear f slot t)) refl
 
-module _ {f : List ℕ} {z : Sizes} {op : Op} (B : Starts z f op (begin f op).job) (t : takes f op ≡ true) where
+module _ {f : List ℕ} {z : Sizes} {op : Op} (B : Starts z f op (job_in (begin f op))) (t : takes f op ≡ true) where
   abbrev j : Job
-  j = (begin f op).job
+  j = job_in (begin f op)
 
   abbrev F : ℕ → List ℕ
   F i = file_at f (scan_of op) j i
@@ -178,8 +178,8 @@ module _ {f : List ℕ} {z : Sizes} {op : Op} (B : Starts z f op (begin f op).jo
 
 pub record-one : RecordOne
 record-one f z o op w t =
-    let B : Starts z f op (begin f op).job = starts f z o op w t in
-    let file : (i : ℕ) → (state_after f op i).file ≡ file_at f (scan_of op) (begin f op).job i = λ i. ap (λ (s : State). s.file) (steps-are B.begins i) in
+    let B : Starts z f op (job_in (begin f op)) = starts f z o op w t in
+    let file : (i : ℕ) → (state_after f op i).file ≡ file_at f (scan_of op) (job_in (begin f op)) i = λ i. ap (λ (s : State). s.file) (steps-are B.begins i) in
     record {
       before = λ i h. ap sizes_of (file i) ∙ (rows-sound B.begins.ready i (omega (arith, B.count))).booted.reads;
       after = λ i a b. ap sizes_of (file i) ∙ sizes-after B t i (omega (arith, B.count)) (omega (arith, B.count)) ∙ sizes-are f z op t;

@@ -1,5 +1,6 @@
 -- A call on a slot of a file that opens: of the refusals only 9 and 10 are left, and the answer hangs on what the slot holds. Two files whose sizes agree in N, L and M
 -- and whose slot holds the same scan show and read it alike.
+use Rattle.std.specs.Prelude.{Ok, Err}
 use Prim.Native.Nat.{ℕ, ◌+◌, ◌-◌, ◌*◌}
 use mathlib.Core.Path.{◌≡◌, refl, sym, ◌∙◌, ap}
 use mathlib.Core.Bool.{Bool, true, false, not}
@@ -19,11 +20,7 @@ use Rattle.paper.specs.declared.sizes.Sizes.{Sizes}
 use Rattle.paper.specs.declared.sizes.Run.{Run}
 use Rattle.paper.specs.declared.refusal.Refusal.{Refusal}
 use Rattle.paper.specs.declared.refusal.Refusal.TheVariants.{EmptySlot, NotVersionOne}
-use Rattle.paper.specs.declared.answer.Opened.TheVariants.{Opens}
-use Rattle.paper.specs.declared.answer.Ruled.{Ruled}
-use Rattle.paper.specs.declared.answer.Ruled.TheVariants.{Keeps, Breaks}
-use Rattle.paper.specs.declared.answer.Span.{Span}
-use Rattle.paper.specs.declared.answer.Span.TheVariants as span
+use Rattle.paper.specs.Answers.{Ruled, Span}
 use Rattle.paper.specs.declared.entry.Entry.{Entry}
 use Rattle.paper.specs.Sizes.{sizes_of, word_at, home_of, start_of}
 use Rattle.paper.specs.Index.{run_of, empty, Full, shown_of, open_of, Sound}
@@ -42,7 +39,7 @@ own z s r = no_slot z s ∷ no_scan r ∷ []
 
 module _ {A : Type 0} (refuse : Refusal → A) where
   -- only 9 and 10 are left
-  call_opens : (f : List ℕ) (z : Sizes) (s : ℕ) (a : Sizes → A) → open_of f ≡ Opens z → judge refuse (slot_checks f s) (a (sizes_of f)) ≡ judge refuse (own z s (run_of f z s)) (a z)
+  call_opens : (f : List ℕ) (z : Sizes) (s : ℕ) (a : Sizes → A) → open_of f ≡ Ok z → judge refuse (slot_checks f s) (a (sizes_of f)) ≡ judge refuse (own z s (run_of f z s)) (a z)
   call_opens f z s a o =
       ap (answer refuse (a (sizes_of f))) (then-opens f (own (sizes_of f) s (run_of f (sizes_of f) s)) o)
       ∙ ap (λ (y : Sizes). judge refuse (own y s (run_of f y s)) (a y)) (open-reads f o)
@@ -59,10 +56,10 @@ module _ {A : Type 0} (refuse : Refusal → A) where
       go true h = rw h refl
       go false h = let i = slot-facts z s h in ap (λ (x : Run). judge refuse (own z s x) a) (e i) ∙ rw h (held (empty r) refl i)
 
-part-judge : (g : List ℕ) (cs : List (Check Refusal)) (x : Span) → part_of g (judge span.Refused cs x) ≡ judge (λ (r : Refusal). []) cs (part_of g x)
+part-judge : (g : List ℕ) (cs : List (Check Refusal)) (x : Span) → part_of g (judge Err cs x) ≡ judge (λ (r : Refusal). []) cs (part_of g x)
 part-judge g cs x = go (fired cs)
   where
-    go : (y : Fired Refusal) → part_of g (answer span.Refused x y) ≡ answer (λ (r : Refusal). []) (part_of g x) y
+    go : (y : Fired Refusal) → part_of g (answer Err x y) ≡ answer (λ (r : Refusal). []) (part_of g x) y
     go clear = refl
     go (fires r) = refl
 
@@ -71,8 +68,8 @@ read-within : (g : List ℕ) (from to : ℕ) → part_of g (read_in from (ruled_
 read-within g from to = go (ruled_of (part from to g) false) refl
   where
     go : (x : Ruled) → ruled_of (part from to g) false ≡ x → part_of g (read_in from x) ≡ part_of (part from to g) (read_in 0 x)
-    go (Breaks n) e = refl
-    go (Keeps head rest) e =
+    go (Err n) e = refl
+    go (Ok (head, rest)) e =
         let a : from + (head + rest) - from ≡ head + rest = omega arith in
         let b : 0 + (head + rest) - 0 ≡ head + rest = omega arith in
         rw (a, b) (sym (take-take (head + rest) (to - from) (drop from g) (omega (arith, (keeps-lengths e).within, length-part-min from to g))))
@@ -106,18 +103,18 @@ module _ (f g : List ℕ) (z : Sizes) (d u c k w : ℕ) (F : Sound f z)
       scan-in h x = read_in (start_of x (run_of h x s).first) (ruled_of (shown_of h x s) false)
 
       abbrev reads_of : List ℕ → Sizes → Span
-      reads_of h x = judge span.Refused (other-in h x) (scan-in h x)
+      reads_of h x = judge Err (other-in h x) (scan-in h x)
 
-      read_is : (h : List ℕ) → read_of h s ≡ judge span.Refused (slot_checks h s) (reads_of h (sizes_of h))
+      read_is : (h : List ℕ) → read_of h s ≡ judge Err (slot_checks h s) (reads_of h (sizes_of h))
       unfolding read_of
-      read_is h = judge-append span.Refused (slot_checks h s) (other-in h (sizes_of h)) (scan-in h (sizes_of h))
+      read_is h = judge-append Err (slot_checks h s) (other-in h (sizes_of h)) (scan-in h (sizes_of h))
 
       others : InIndex z s → Full (run_of f z s) → other-in g y ≡ other-in f z
       others i full = ap (λ (t : Bool). check (not t) NotVersionOne ∷ []) (one i full)
 
       pub show-same : show_of g s ≡ show_of f s
       unfolding show_of
-      show-same = both span.Refused (shows-of g) (shows-of f) (λ i full. ap (records_span z) (runs i))
+      show-same = both Err (shows-of g) (shows-of f) (λ i full. ap (records_span z) (runs i))
 
       pub shows_same : part_of g (show_of g s) ≡ part_of f (show_of f s)
       unfolding show_of
@@ -129,10 +126,10 @@ module _ (f g : List ℕ) (z : Sizes) (d u c k w : ℕ) (F : Sound f z)
       pub read_same : read_of g s ≡ read_of f s
       read_same =
           read_is g
-          ∙ both span.Refused (reads_of g) (reads_of f)
+          ∙ both Err (reads_of g) (reads_of f)
           (λ i full.
-          ap (λ (cs : List (Check Refusal)). judge span.Refused cs (scan-in g y)) (others i full)
-          ∙ ap (judge span.Refused (other-in f z))
+          ap (λ (cs : List (Check Refusal)). judge Err cs (scan-in g y)) (others i full)
+          ∙ ap (judge Err (other-in f z))
           (ap (λ (r : Run). read_in (start_of z r.first) (ruled_of (shown_of g y s) false)) (runs i)
           ∙ ap (λ (b : List ℕ). read_in (start_of z (run_of f z s).first) (ruled_of b false)) (shown i)))
           ∙ sym (read_is f)

@@ -1,4 +1,5 @@
 -- There and home again: the theorems of 02, 2026-03, from the laws of `paper`.
+use Rattle.std.specs.Prelude.{Ok, Err}
 use Prim.Native.Nat.{ℕ, ◌+◌, ◌*◌, ◌≤◌}
 use mathlib.Core.Path.{◌≡◌, refl, sym, ◌∙◌, ap, subst}
 use mathlib.Core.Bool.{not}
@@ -15,6 +16,7 @@ use Rattle.lent.specs.Number.{be16, int16}
 use Rattle.lent.specs.Part.{part, Alike}
 use Rattle.lent.specs.Write.{write}
 use Rattle.lent.specs.Lists.{threes}
+use Rattle.lent.proofs.Checks.{judge-clear}
 use Rattle.lent.proofs.Lists.{same_or, those-same}
 use Rattle.lent.proofs.Parts.{part_same, alike-within}
 use Rattle.lent.proofs.Writes.{drop-write, length-write}
@@ -22,18 +24,16 @@ use Rattle.paper.specs.declared.sizes.Sizes.{Sizes}
 use Rattle.paper.specs.declared.sizes.Run.{Run}
 use Rattle.paper.specs.declared.refusal.Refusal.{Refusal}
 use Rattle.paper.specs.declared.refusal.Refusal.TheVariants.{TooSmall}
-use Rattle.paper.specs.declared.answer.Opened.TheVariants.{Opens}
-use Rattle.paper.specs.declared.answer.Listed.TheVariants as listed
-use Rattle.paper.specs.declared.answer.Taken.TheVariants as taken
 use Rattle.paper.specs.declared.entry.Entry.{Entry}
-use Rattle.paper.specs.declared.entry.Found.{Found}
+use Rattle.paper.specs.Answers.{Found, taken_in}
 use Rattle.paper.specs.Sizes.{by_form, sizes_of, version_of, home_of, start_of, capacity_of}
 use Rattle.paper.specs.Index.{run_of, empty, Full, slots_of, shown_of, Sound}
-use Rattle.paper.specs.Entry.{fields_of, magic_of, version_one, no_entry}
-use Rattle.paper.specs.Look.{slot_checks, found_of, lines_of, list_of, list_checks, listed_of, listed_out, InIndex}
+use Rattle.paper.specs.Entry.{fields_of, magic_of, version_one}
+use Rattle.paper.specs.Look.{slot_checks, found_of, lines_of, list_of, list_checks, listed_of, listed_out, InIndex, fields_in}
 use Rattle.paper.specs.Convert.{in_form, carried_at, records_as, convert_of, converted_out, Sayable, Convertible, Zeroed}
 use Rattle.paper.proofs.Opening.{then-opens, sound-open, inside-all, full-holds, slots-holds, lies-past, lies-end}
 use Rattle.paper.proofs.Forms.{facts-one}
+use Rattle.paper.proofs.Handed.{taken-ok}
 use Rattle.paper.proofs.Carrying.{middle-short, length-records-as}
 use Rattle.paper.proofs.Converting.{convert-taken, taken-convert, taken_out}
 use Rattle.paper.proofs.Reforming.{reform-length, reform-data, reform-position, reform-magic, reform-middle, reform-run, reform-sound}
@@ -109,8 +109,8 @@ module _ (v : ℕ) (form : v ≤ 1) {f : List ℕ} {z : Sizes} (S : Sound f z) (
       record {
         slots = list-is;
         answer = λ out.
-            list-judge listed.Refused (listed.Scans (length (list_of g))) out
-            ∙ ap (λ (ss : List ℕ). judge listed.Refused (list_checks f out) (listed.Scans (length ss))) list-is;
+            list-judge Err (Ok (length (list_of g))) out
+            ∙ ap (λ (ss : List ℕ). judge Err (list_checks f out) (Ok (length ss))) list-is;
         lines = λ out.
             list-judge (λ (r : Refusal). out) (write out 0 (lines_of (run_of g (sizes_of g)) (list_of g))) out
             ∙ ap (λ (ls : List ℕ). judge (λ (r : Refusal). out) (list_checks f out) (write out 0 ls)) lines-is;
@@ -150,21 +150,15 @@ module _ (v : ℕ) (form : v ≤ 1) {f : List ℕ} {z : Sizes} (S : Sound f z) (
           facts-one v g at (reform-magic v form S Y low s i.low i.high full)
           ∙ sym (facts-one z.version f at (Y.magics s i.low (full-holds S.laid s i.low i.high full).high full))
 
+    abbrev own : Entry
+    own = fields_of (version_of f) f (home_of (sizes_of f) s)
+
     -- the entry that the call hands out, with the wanted form's magic number where it is one
-    abbrev found-with : ℤ → Found → Found
-    found-with m x = record { answer = x.answer; entry = with_magic m x.entry }
-
-    abbrev nothing-found : Refusal → Found
-    nothing-found r = record { answer = taken.Refused r; entry = no_entry }
-
-    abbrev found-of : List ℕ → Sizes → Found
-    found-of h x = record { answer = taken.Accepted; entry = fields_of x.version h (home_of x s) }
-
-    found-same : found_of g s ≡ judge nothing-found (slot_checks f s) (found-with (magic_in v) (found-of f (sizes_of f)))
+    found-same : found_of g s ≡ judge Err (slot_checks f s) (Ok (with_magic (magic_in v) own))
     unfolding found_of
     found-same =
-        both f g z z.d z.u z.counter z.kind v S G s runs nothing-found (found-of g) (λ x. found-with (magic_in v) (found-of f x))
-        (λ i full. ap (λ (e : Entry). record { answer = taken.Accepted; entry = e }) (fields i full))
+        both f g z z.d z.u z.counter z.kind v S G s runs Err (λ x. Ok (fields_of x.version g (home_of x s)))
+        (λ x. Ok (with_magic (magic_in v) (fields_of x.version f (home_of x s)))) (λ i full. ap Ok (fields i full))
 
     there-slot : SameBut v f g s
     unfolding found_of
@@ -178,28 +172,23 @@ module _ (v : ℕ) (form : v ≤ 1) {f : List ℕ} {z : Sizes} (S : Sound f z) (
           reads = reads_same f g z z.d z.u z.counter z.kind v S G s runs shows one;
         }
       where
-        x : Fired Refusal
-        x = fired (slot_checks f s)
-
-        found-answer : (found_of g s).answer ≡ (found_of f s).answer
-        found-answer = ap (λ (q : Found). q.answer) found-same ∙ go x
+        found-answer : taken_in (found_of g s) ≡ taken_in (found_of f s)
+        found-answer = ap (λ (q : Found). taken_in q) found-same ∙ go (fired (slot_checks f s))
           where
-            go : (q : Fired Refusal) → (answer nothing-found (found-with (magic_in v) (found-of f (sizes_of f))) q).answer ≡ (answer nothing-found (found-of f (sizes_of f)) q).answer
+            go : (q : Fired Refusal) → taken_in (answer {A = Found} Err (Ok (with_magic (magic_in v) own)) q) ≡ taken_in (answer {A = Found} Err (Ok own) q)
             go clear = refl
             go (fires r) = refl
 
-        found-entry : (found_of f s).answer ≡ taken.Accepted → (found_of g s).entry ≡ with_magic (magic_in v) (found_of f s).entry
-        found-entry e = ap (λ (q : Found). q.entry) found-same ∙ go x e
-          where
-            go : (q : Fired Refusal) → (answer nothing-found (found-of f (sizes_of f)) q).answer ≡ taken.Accepted
-                → (answer nothing-found (found-with (magic_in v) (found-of f (sizes_of f))) q).entry ≡ with_magic (magic_in v) (answer nothing-found (found-of f (sizes_of f)) q).entry
-            go clear e = refl
-            go (fires r) e = let w : ◌≡◌ {A = ℕ} 0 1 = cc in absurd (omega arith)
+        found-entry : taken_in (found_of f s) ≡ Ok tt → fields_in (found_of g s) ≡ with_magic (magic_in v) (fields_in (found_of f s))
+        found-entry e =
+            let c = taken-ok (slot_checks f s) own e in
+            ap (λ (q : Found). fields_in q) (found-same ∙ judge-clear Err (slot_checks f s) (Ok (with_magic (magic_in v) own)) c)
+            ∙ sym (ap (λ (q : Found). with_magic (magic_in v) (fields_in q)) (judge-clear Err (slot_checks f s) (Ok own) c))
 
   there-is : There v f g
   there-is =
       record {
-        opens = sound-open G ∙ ap (λ (x : Sizes). Opens (in_form v x)) (sym S.booted.reads);
+        opens = sound-open G ∙ ap (λ (x : Sizes). Ok (in_form v x)) (sym S.booted.reads);
         lists = lists;
         slots = there-slot;
         as_long = len;
@@ -232,14 +221,13 @@ module _ {f : List ℕ} {z : Sizes} (S : Sound f z) (Y : Sayable z.version f z) 
   found-own : (s : ℕ) → found_of back s ≡ found_of f s
   unfolding found_of
   found-own s =
-      both f back z z.d z.u z.counter z.kind z.version S (G z.version form-own S Y low) s (runs z.version form-own S Y low s) (λ r. record { answer = taken.Refused r; entry = no_entry })
-      (λ x. record { answer = taken.Accepted; entry = fields_of x.version back (home_of x s) }) (λ x. record { answer = taken.Accepted; entry = fields_of x.version f (home_of x s) })
-      (λ i full. ap (λ (e : Entry). record { answer = taken.Accepted; entry = e }) (fields-own s i full))
+      both f back z z.d z.u z.counter z.kind z.version S (G z.version form-own S Y low) s (runs z.version form-own S Y low s) Err
+      (λ x. Ok (fields_of x.version back (home_of x s))) (λ x. Ok (fields_of x.version f (home_of x s))) (λ i full. ap Ok (fields-own s i full))
 
   home-is : Home f back
   home-is =
       record {
-        opens = T.opens ∙ ap (λ (x : Sizes). Opens (in_form z.version x)) S.booted.reads ∙ sym (sound-open S);
+        opens = T.opens ∙ ap (λ (x : Sizes). Ok (in_form z.version x)) S.booted.reads ∙ sym (sound-open S);
         lists = T.lists;
         slots = λ s.
             record { entry = found-own s; show = (T.slots s).show; shows = (T.slots s).shows; read = (T.slots s).read; reads = (T.slots s).reads };
@@ -268,7 +256,7 @@ module _ (v : ℕ) (form : v ≤ 1) {f out : List ℕ} {z : Sizes} (C : Converti
     came : converted z.version (converted v f out) back ≡ records_as z.version z (carried_at f z) ++ drop (z.n * z.l) f
     came = ap (λ (x : List ℕ). converted z.version x back) (joined_is v C) ∙ returned
 
-    pub home-taken-is : convert_of z.version (converted v f out) back ≡ taken.Accepted
+    pub home-taken-is : convert_of z.version (converted v f out) back ≡ Ok tt
     home-taken-is = ap (λ (x : List ℕ). convert_of z.version x back) (joined_is v C) ∙ taken-convert z.version there back H
 
     pub home-shows : Home f (converted z.version (converted v f out) back)
@@ -284,7 +272,7 @@ module _ (v : ℕ) (form : v ≤ 1) {f out : List ℕ} {z : Sizes} (C : Converti
     pub home-bytes : records_as z.version z (carried_at f z) ≡ take (z.n * z.l) f → converted z.version (converted v f out) back ≡ f
     home-bytes e = came ∙ ap (λ (x : List ℕ). x ++ drop (z.n * z.l) f) e ∙ take-append-drop (z.n * z.l) f
 
-beyond-is : (v : ℕ) (f out : List ℕ) → convert_of v f out ≡ taken.Accepted
+beyond-is : (v : ℕ) (f out : List ℕ) → convert_of v f out ≡ Ok tt
     → (drop ((sizes_of f).n * (sizes_of f).l) (converted_out v f out) ≡ drop ((sizes_of f).n * (sizes_of f).l) out) × (length (converted_out v f out) ≡ length out)
 beyond-is v f out e =
     let C = convert-taken v f out e in
@@ -298,7 +286,7 @@ beyond-is v f out e =
     )
 
 -- padding and empty entries of what was made
-zeroed-is : (v : ℕ) → v ≤ 1 → (f out : List ℕ) → Bytes f → convert_of v f out ≡ taken.Accepted
+zeroed-is : (v : ℕ) → v ≤ 1 → (f out : List ℕ) → Bytes f → convert_of v f out ≡ Ok tt
     → Zeroed (converted v f out) (sizes_of (converted v f out)) (by_form v 12 32) (by_form v 60 62)
 zeroed-is v form f out low e =
     let C = convert-taken v f out e in
@@ -315,7 +303,7 @@ written_is v {f} {out} {z} C =
     ap (take (z.n * z.l)) (taken_out v f out C)
     ∙ take_at recs (drop (0 + length recs) out) (z.n * z.l) (length-records-as v z (carried_at f z) C.sound.booted.ranged.shape (middle-short f z))
 
-agree-is : (v : ℕ) (f out other : List ℕ) → convert_of v f out ≡ taken.Accepted → (sizes_of f).n * (sizes_of f).l ≤ length other → Agree v f out other
+agree-is : (v : ℕ) (f out other : List ℕ) → convert_of v f out ≡ Ok tt → (sizes_of f).n * (sizes_of f).l ≤ length other → Agree v f out other
 agree-is v f out other e fits =
     let C = convert-taken v f out e in
     let D : Convertible v f other (sizes_of f) = record { sound = C.sound; room = fits; other = C.other; sayable = C.sayable } in

@@ -1,4 +1,5 @@
 -- Demand 2, of the entry as the call gives it.
+use Rattle.std.specs.Prelude.{Ok, Err}
 use Prim.Native.Nat.{ℕ, ◌+◌, ◌-◌, ◌*◌, ◌%◌, ◌≤◌, ◌<◌}
 use mathlib.Core.Path.{◌≡◌, refl, sym, ◌∙◌, ap, subst}
 use mathlib.Core.Bool.{true, false}
@@ -11,7 +12,7 @@ use lib.Dec.{leb}
 use lib.Ieee.{Float, binary32, binary64, of_bits}
 use lib.IntN.{pos}
 use lib.ListN.{length}
-use Rattle.lent.specs.Checks.{Fired, clear, fires, fired, answer}
+use Rattle.lent.specs.Checks.{clear, fired}
 use Rattle.lent.specs.Lists.{all}
 use Rattle.lent.specs.Number.{big, number, bytes, be16, be32, be64, int16, widened}
 use Rattle.lent.specs.Part.{part}
@@ -21,16 +22,15 @@ use Rattle.lent.proofs.Numbers.{bytes-number, number-two}
 use Rattle.lent.proofs.Parts.{part-part, part_join, part_none}
 use Rattle.paper.specs.declared.sizes.Sizes.{Sizes}
 use Rattle.paper.specs.declared.sizes.Run.{Run}
-use Rattle.paper.specs.declared.refusal.Refusal.{Refusal}
-use Rattle.paper.specs.declared.answer.Taken.TheVariants.{Accepted, Refused}
-use Rattle.paper.specs.declared.entry.Found.{Found}
+use Rattle.paper.specs.Answers.{Found, taken_in}
 use Rattle.paper.specs.Refusals.{kind_says}
 use Rattle.paper.specs.Sizes.{sizes_of, version_of, word_at, home_of}
 use Rattle.paper.specs.Index.{run_of, Full, Lies, Sound}
-use Rattle.paper.specs.Entry.{natural_of, kind_of, magic_of, position_of, fields_of, no_entry}
-use Rattle.paper.specs.Look.{slot_checks, found_of}
+use Rattle.paper.specs.Entry.{natural_of, kind_of, magic_of, position_of, fields_of}
+use Rattle.paper.specs.Look.{slot_checks, found_of, fields_in}
 use Rattle.paper.specs.Store.{records_for, run_from}
 use Rattle.paper.proofs.Sizing.{home-is, home-in}
+use Rattle.paper.proofs.Handed.{taken-ok}
 use Rattle.paper.proofs.Opening.{open-sound, open-reads, inside-all}
 use Rattle.paper.proofs.Encoding.{entry-about}
 use Rattle.paper.proofs.Begins.{SlotTaken, slot-is-taken}
@@ -185,19 +185,9 @@ kind-is v f at =
 
 -- ---- the call
 
-found-taken : (f : List ℕ) (s : ℕ) → (found_of f s).answer ≡ Accepted → fired (slot_checks f s) ≡ clear
+pub found-is : (f : List ℕ) (s : ℕ) → fired (slot_checks f s) ≡ clear → found_of f s ≡ Ok (fields_of (version_of f) f (home_of (sizes_of f) s))
 unfolding found_of
-found-taken f s e = go (fired (slot_checks f s)) e
-  where
-    go : (x : Fired Refusal)
-        → (answer {A = Found} (λ (r : Refusal). record { answer = Refused r; entry = no_entry }) (record { answer = Accepted; entry = fields_of (version_of f) f (home_of (sizes_of f) s) }) x).answer ≡ Accepted
-        → x ≡ clear
-    go clear e = refl
-    go (fires r) e = let z : ◌≡◌ {A = ℕ} 0 1 = cc in absurd (omega arith)
-
-pub found-is : (f : List ℕ) (s : ℕ) → fired (slot_checks f s) ≡ clear → found_of f s ≡ record { answer = Accepted; entry = fields_of (version_of f) f (home_of (sizes_of f) s) }
-unfolding found_of
-found-is f s e = judge-clear (λ (r : Refusal). record { answer = Refused r; entry = no_entry }) (slot_checks f s) _ e
+found-is f s e = judge-clear Err (slot_checks f s) _ e
 
 module _ (f : List ℕ) (s : ℕ) (c : fired (slot_checks f s) ≡ clear) where
   T : SlotTaken f s
@@ -224,10 +214,10 @@ module _ (f : List ℕ) (s : ℕ) (c : fired (slot_checks f s) ≡ clear) where
   last-own : version_of f ≡ 0 → (word_at (version_of f) f at_home 1 ≡ be16 f (at_home + 2)) × (word_at (version_of f) f at_home 1 < 32768)
   last-own v = word-own (version_of f) f at_home 1 v (omega (arith, lies.high, S.booted.ranged.records))
 
-  pub entry-fields-at : Bytes f → EntryIs f (sizes_of f) s (found_of f s).entry
+  pub entry-fields-at : Bytes f → EntryIs f (sizes_of f) s (fields_in (found_of f s))
   entry-fields-at low =
       let at : ℕ = home_of (sizes_of f) s in
-      let e : (found_of f s).entry ≡ fields_of (version_of f) f at = ap (λ (x : Found). x.entry) (found-is f s c) in
+      let e : fields_in (found_of f s) ≡ fields_of (version_of f) f at = ap (λ (x : Found). fields_in x) (found-is f s c) in
       let h : entry_byte (sizes_of f) s ≡ at = home-is (sizes_of f) s in
       subst (EntryIs f (sizes_of f) s) (sym e)
       (record {
@@ -239,10 +229,10 @@ module _ (f : List ℕ) (s : ℕ) (c : fired (slot_checks f s) ≡ clear) where
         kind = rw h (kind-is (version_of f) f at);
       })
 
-  pub old-run-at : OldRunIs f (sizes_of f) s (found_of f s).entry
+  pub old-run-at : OldRunIs f (sizes_of f) s (fields_in (found_of f s))
   old-run-at =
       let at : ℕ = home_of (sizes_of f) s in
-      let e : (found_of f s).entry ≡ fields_of (version_of f) f at = ap (λ (x : Found). x.entry) (found-is f s c) in
+      let e : fields_in (found_of f s) ≡ fields_of (version_of f) f at = ap (λ (x : Found). fields_in x) (found-is f s c) in
       let h : entry_byte (sizes_of f) s ≡ at = home-is (sizes_of f) s in
       subst (OldRunIs f (sizes_of f) s) (sym e)
       (record {
@@ -252,10 +242,12 @@ module _ (f : List ℕ) (s : ℕ) (c : fired (slot_checks f s) ≡ clear) where
       })
 
 pub entry-fields : EntryFields
-entry-fields f s low e = entry-fields-at f s (found-taken f s e) low
+unfolding found_of
+entry-fields f s low e = entry-fields-at f s (taken-ok (slot_checks f s) _ e) low
 
 pub old-runs : OldRuns
-old-runs f s e = old-run-at f s (found-taken f s e)
+unfolding found_of
+old-runs f s e = old-run-at f s (taken-ok (slot_checks f s) _ e)
 
 -- ---- after a save
 
@@ -273,14 +265,14 @@ saved-gives f scan j r count low e k54 =
     let at : ℕ = home_of z s in
     let long = home-in S.booted s A.low A.high in
     let m = S.booted.ranged.shape.m_low in
-    let g : found_of f s ≡ record { answer = Accepted; entry = fields_of (version_of f) f at } = found-is f s c in
+    let g : found_of f s ≡ Ok (fields_of (version_of f) f at) = found-is f s c in
     let v : version_of f ≡ 1 = A.current in
     record {
-      taken = ap (λ (y : Found). y.answer) g;
+      taken = ap (λ (y : Found). taken_in y) g;
       about =
-          ap (λ (y : Found). part 8 62 (field_bytes y.entry)) g ∙ ap (λ (x : ℕ). part 8 62 (field_bytes (fields_of x f at))) v ∙ ap (part 8 62) (fields_back f low at (omega arith))
+          ap (λ (y : Found). part 8 62 (field_bytes (fields_in y))) g ∙ ap (λ (x : ℕ). part 8 62 (field_bytes (fields_of x f at))) v ∙ ap (part 8 62) (fields_back f low at (omega arith))
           ∙ part-part at (at + 62) f 8 62 (omega arith) (omega arith) ∙ sym (part-part at (at + z.m) f 8 62 (omega arith) (omega arith))
           ∙ ap (part 8 62) (saved-entry C x.is) ∙ entry-about z (run_from j.first (records_for z (length scan))) j.about k54;
-      first = ap (λ (y : Found). y.entry.first) g ∙ field-first (version_of f) f at ∙ ap (λ (y : Run). y.first) run;
-      last = ap (λ (y : Found). y.entry.last) g ∙ field-last (version_of f) f at ∙ ap (λ (y : Run). y.last) run;
+      first = ap (λ (y : Found). (fields_in y).first) g ∙ field-first (version_of f) f at ∙ ap (λ (y : Run). y.first) run;
+      last = ap (λ (y : Found). (fields_in y).last) g ∙ field-last (version_of f) f at ∙ ap (λ (y : Run). y.last) run;
     }

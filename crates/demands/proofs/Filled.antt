@@ -1,4 +1,6 @@
 -- An accepted blank opens, and keeps a scan; an old file with a scan is read; a file of each form is converted to the other.
+use Rattle.std.specs.Prelude.{Ok}
+use Rattle.std.specs.Result.{is_ok}
 use Prim.Native.Nat.{ℕ, ◌+◌, ◌-◌, ◌*◌, ◌/◌, ◌≤◌, ◌<◌}
 use mathlib.Core.Path.{◌≡◌, refl, sym, ◌∙◌, ap, subst}
 use mathlib.Core.Bool.{true}
@@ -16,16 +18,13 @@ use Rattle.lent.proofs.Writes.{length-pad, pad-at, write-in, write-after}
 use Rattle.whole.specs.Number.{exactly, whole_float, whole_of}
 use Rattle.whole.specs.Length.{length_of, is_whole, size_of}
 use Rattle.paper.specs.declared.sizes.Sizes.{Sizes}
-use Rattle.paper.specs.declared.answer.Opened.TheVariants.{Opens}
-use Rattle.paper.specs.declared.answer.Ruled.TheVariants.{Keeps}
-use Rattle.paper.specs.declared.answer.Taken.TheVariants.{Accepted}
-use Rattle.paper.specs.declared.job.Begun.{Begun}
+use Rattle.paper.specs.Answers.{Begun}
 use Rattle.paper.specs.declared.job.Step.TheVariants.{Saved}
 use Rattle.paper.specs.Sizes.{sizes_of, word_at, counter_of, type_of, boot_bytes, capacity_of, room_of, shaped, in_range}
 use Rattle.paper.specs.Index.{run_of, empty, in_data, bad_at, above_at, shares, sharer, shared_at, slots_of, open_of, Sound, Changeable}
 use Rattle.paper.specs.Entry.{kind_of, magic_of, position_of, version_one, fields_of}
 use Rattle.paper.specs.Scan.{classes_of, starts_of, rule1, rule2, rule3, rule4, rule5, rule6, rising, headlen, datalen, ruled_of}
-use Rattle.paper.specs.Store.{blank_sizes, blank_of, blank_file, records_for, free_place, many_of, save_of}
+use Rattle.paper.specs.Store.{blank_sizes, blank_of, blank_file, records_for, free_place, many_of, save_of, job_in}
 use Rattle.paper.specs.Look.{found_of, show_of, read_of, InIndex}
 use Rattle.paper.specs.Convert.{boot_as, scan_as, entry_as, entries_as, records_as, other_magic, wide_run, convert_of, converted_out, joined}
 use Rattle.paper.proofs.Sizing.{head-long}
@@ -33,7 +32,7 @@ use Rattle.paper.proofs.Opening.{sound-open}
 use Rattle.paper.proofs.Encoding.{length-boot}
 use Rattle.paper.proofs.Begins.{SaveTaken, taken-save}
 use Rattle.paper.proofs.Blank.{blank-facts, facts-blank, blank-file, blank-sound, blank-length, first-place}
-use Rattle.demands.specs.History.{save, takes, is_accepted, slot_of, writes_by, state_after, answer_after}
+use Rattle.demands.specs.History.{save, takes, slot_of, writes_by, state_after, answer_after}
 use Rattle.demands.specs.Truth.{ReadsBack}
 use Rattle.demands.specs.NotEmpty.{Blanks, BlankOpens, BlankWrites, least_scan, Kept, BlankKeeps, old_file, OldReads, current_file, BothWays}
 use Rattle.demands.proofs.Survived.{confirms-each}
@@ -42,7 +41,7 @@ use Rattle.demands.proofs.True.{run-reads}
 pub blanks : Blanks
 blanks f n l m s h = facts-blank f n l m (record { shape = s; fits = h })
 
-sound : (f : List ℕ) (n l m : ℕ) → blank_of f n l m ≡ Accepted → Sound (blank_file f n l m) (blank_sizes n l m)
+sound : (f : List ℕ) (n l m : ℕ) → blank_of f n l m ≡ Ok tt → Sound (blank_file f n l m) (blank_sizes n l m)
 sound f n l m e = let h = blank-facts f n l m e in rw (blank-file f n l m h) (blank-sound f n l m h)
 
 pub blank-opens : BlankOpens
@@ -53,7 +52,7 @@ blank-opens f n l m e =
 
 -- ---- the least scan
 
-scan-keeps : ruled_of least_scan true ≡ Keeps (headlen least_scan) (datalen least_scan)
+scan-keeps : ruled_of least_scan true ≡ Ok (headlen least_scan, datalen least_scan)
 unfolding number value int16 table every exactly whole_float whole_of of_bits length_of is_whole size_of classes_of starts_of rule1 rule2 rule3 rule4 rule5 rule6 rising ruled_of least_scan
 scan-keeps = refl
 
@@ -88,7 +87,7 @@ blank-writes f n l m e =
       as_long = rw g (blank-length f n l m h);
     }
 
-module _ (f : List ℕ) (n l m : ℕ) (e : blank_of f n l m ≡ Accepted) (room : (n + 1) * l ≤ length f) where
+module _ (f : List ℕ) (n l m : ℕ) (e : blank_of f n l m ≡ Ok tt) (room : (n + 1) * l ≤ length f) where
   abbrev z : Sizes
   z = blank_sizes n l m
 
@@ -136,16 +135,16 @@ module _ (f : List ℕ) (n l m : ℕ) (e : blank_of f n l m ≡ Accepted) (room 
 
   keeps : (about : List ℕ) → length about ≡ 54 → Kept g about
   keeps about w =
-      let t : takes g (save 1 least_scan about) ≡ true = ap (λ (b : Begun). is_accepted b.answer) (taken-save g 1 least_scan about taken) in
-      let o : open_of g ≡ Opens z = sound-open S in
-      let s : slot_of g (save 1 least_scan about) ≡ 1 = ap (λ (b : Begun). b.job.slot) (taken-save g 1 least_scan about taken) in
+      let t : takes g (save 1 least_scan about) ≡ true = ap (λ (b : Begun). is_ok b) (taken-save g 1 least_scan about taken) in
+      let o : open_of g ≡ Ok z = sound-open S in
+      let s : slot_of g (save 1 least_scan about) ≡ 1 = ap (λ (b : Begun). (job_in b).slot) (taken-save g 1 least_scan about taken) in
       let none : many_of (run_of g z (slot_of g (save 1 least_scan about))) ≡ 0 = rw s (omega (arith, S.laid.above 1 (omega arith) slots)) in
       let q : writes_by g z (save 1 least_scan about) ≡ 3 = omega (arith, one, none) in
       let q' : writes_by g z (save 1 least_scan about) + 0 ≡ 3 = omega (arith, q) in
       record {
         taken = t;
         saved =
-            ap (answer_after g (save 1 least_scan about)) (sym q') ∙ (confirms-each g z o (save 1 least_scan about) w t).confirms 0 ∙ ap (Saved 0) q;
+            ap (answer_after g (save 1 least_scan about)) (sym q') ∙ (confirms-each g z o (save 1 least_scan about) w t).confirms 0 ∙ ap (λ (n : ℕ). Ok (Saved 0 n)) q;
         reads =
             subst (λ (x : ℕ). ReadsBack (state_after g (save 1 least_scan about) 3).file x least_scan about) s
             (subst (λ (k : ℕ). ReadsBack (state_after g (save 1 least_scan about) k).file (slot_of g (save 1 least_scan about)) least_scan about) q'

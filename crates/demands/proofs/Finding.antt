@@ -1,4 +1,5 @@
 -- 2026-06: what is found by the rules alone, and that it is what the index lists where nothing else is left.
+use Rattle.std.specs.Prelude.{Ok}
 use Prim.Native.Nat.{ℕ, zero, suc, ◌+◌, ◌-◌, ◌*◌, ◌≤◌, ◌<◌}
 use mathlib.Core.Path.{◌≡◌, refl, sym, ◌∙◌, ap, subst}
 use mathlib.Core.Bool.{false}
@@ -15,7 +16,6 @@ use Rattle.lent.proofs.Parts.{length_part, part_join}
 use Rattle.lent.proofs.Numbers.{number-part}
 use Rattle.paper.specs.declared.sizes.Sizes.{Sizes}
 use Rattle.paper.specs.declared.sizes.Run.{Run}
-use Rattle.paper.specs.declared.answer.Ruled.TheVariants.{Keeps}
 use Rattle.paper.specs.Sizes.{sizes_of, start_of, bytes_of, boot_checks}
 use Rattle.paper.specs.Index.{run_of, shown_of, shares, Booted, Sound}
 use Rattle.paper.specs.Scan.{headlen, datalen, ruled_of}
@@ -39,7 +39,7 @@ down P top past here (suc m) r h =
     ⊎_elim (λ (l : top < r). past r l) (λ (l : r ≤ top). here r l (λ j k. down P top past here m j (omega arith))) (lt-or-ge top r)
 
 -- a run that obeys every rule is judged to keep them
-obeys-keeps : (s : List ℕ) → Obeys s → ruled_of s false ≡ Keeps (headlen s) (datalen s)
+obeys-keeps : (s : List ℕ) → Obeys s → ruled_of s false ≡ Ok (headlen s, datalen s)
 obeys-keeps s h = keeps (record { one = h 1; two = h 2; three = h 3; four = h 4; five = h 5; six = h 6; head_is = refl; rest_is = refl })
 
 -- ---- what is found
@@ -135,7 +135,7 @@ module _ (f : List ℕ) (z : Sizes) (S : Sound f z) (G : GapsZero f z) (A : (s :
 
   module _ (s : ℕ) (h : Holds z run s) where
     -- its scan keeps the rules, and its bytes lie before the end of the data section
-    slot-rules : ruled_of (shown_of f z s) false ≡ Keeps (headlen (shown_of f z s)) (datalen (shown_of f z s))
+    slot-rules : ruled_of (shown_of f z s) false ≡ Ok (headlen (shown_of f z s), datalen (shown_of f z s))
     slot-rules = obeys-keeps (shown_of f z s) (A s h).obeys
 
     slot-ends : (start_of z (run s).first ≤ (run s).last * z.l) × ((run s).last * z.l ≤ bytes_of z)
@@ -150,7 +150,7 @@ module _ (f : List ℕ) (z : Sizes) (S : Sound f z) (G : GapsZero f z) (A : (s :
         (record {
           head = headlen (shown_of f z s);
           rest = datalen (shown_of f z s);
-          rules = subst (λ (t : List ℕ). ruled_of t false ≡ Keeps (headlen (shown_of f z s)) (datalen (shown_of f z s)))
+          rules = subst (λ (t : List ℕ). ruled_of t false ≡ Ok (headlen (shown_of f z s), datalen (shown_of f z s)))
               (part_join (start_of z (run s).first) ((run s).last * z.l) (bytes_of z) f slot-ends.0 slot-ends.1 S.booted.held)
               (rules-longer (shown_of f z s) (part ((run s).last * z.l) (bytes_of z) f) false slot-rules);
           records = (A s h).exactly;

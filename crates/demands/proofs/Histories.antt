@@ -1,4 +1,5 @@
 -- What a file's slots hold after one operation, cut anywhere, and after a history.
+use Rattle.std.specs.Prelude.{Ok}
 use Prim.Native.Nat.{ℕ, zero, suc, ◌+◌, ◌%◌, ◌≤◌, ◌<◌}
 use mathlib.Core.Path.{◌≡◌, refl, sym, ◌∙◌, ap, subst}
 use mathlib.Core.Bool.{Bool, true, false, cond}
@@ -11,7 +12,6 @@ use lib.Dec.{leb}
 use Rattle.lent.specs.Lists.{also}
 use Rattle.lent.proofs.Lists.{lt-or-ge, same_or}
 use Rattle.paper.specs.declared.sizes.Sizes.{Sizes}
-use Rattle.paper.specs.declared.answer.Opened.TheVariants.{Opens}
 use Rattle.paper.specs.declared.job.Job.{Job}
 use Rattle.paper.specs.Sizes.{renewed, capacity_of}
 use Rattle.paper.specs.Index.{shown_of, entry_at, open_of, Sound}
@@ -109,7 +109,7 @@ module _ {z : Sizes} {f : List ℕ} {op : Op} {j : Job} (B : Starts z f op j) wh
 
 -- ---- the same, accepted or refused, and cut
 
-module _ (f : List ℕ) (z : Sizes) (o : open_of f ≡ Opens z) (op : Op) (w : Whole op) where
+module _ (f : List ℕ) (z : Sizes) (o : open_of f ≡ Ok z) (op : Op) (w : Whole op) where
   -- `change` with the sizes and the verdict named
   abbrev change_at : Sizes → Bool → ℕ → Holding → Holding
   change_at y t i h s = cond (also t (leb (records_of y op + 2) i)) (put h (slot_of f op) (given f y op) s) (h s)
@@ -140,7 +140,7 @@ raised-more : (n m c : ℕ) → raised m (raised n c) ≡ raised (n + m) c
 raised-more zero m c = ap (λ (k : ℕ). raised k c) (sym (zero-add m))
 raised-more (suc n) m c = raised-more n m ((c + 1) % 4294967296) ∙ ap (λ (k : ℕ). raised k c) (sym (suc-add n m))
 
-pub history : (os : List Done) (f : List ℕ) (z : Sizes) → open_of f ≡ Opens z → Wholes os → (h : Holding)
+pub history : (os : List Done) (f : List ℕ) (z : Sizes) → open_of f ≡ Ok z → Wholes os → (h : Holding)
     → ((t : ℕ) → 1 ≤ t → t ≤ capacity_of z → held_at f z t ≡ h t) → Outcome z (after f os) (holds f os h) (jobs f os)
 history [] f z o w h e = record { d = z.d; u = z.u; c = z.counter; counts = refl; sound = open-sound o; shows = e }
 history (x ∷ os) f z o w h e =

@@ -1,4 +1,5 @@
 -- 2026-07: of a link that was begun, the bytes that count are the first N x L, or the first 32, or none; no other leaves a trace in link or row.
+use Rattle.std.specs.Prelude.{Err}
 use Prim.Native.Nat.{ℕ, ◌+◌, ◌-◌, ◌*◌, ◌≤◌, ◌<◌, min, max}
 use mathlib.Core.Path.{◌≡◌, refl, sym, ◌∙◌, ap, subst}
 use mathlib.Core.Bool.{Bool, true, false, not, cond}
@@ -16,12 +17,10 @@ use Rattle.lent.proofs.Checks.{clear≢fires, clear-all, all-clear, judge-clear}
 use Rattle.lent.proofs.Writes.{get_or-zeros, length-write, write-after, write-in, write-all}
 use Rattle.paper.specs.declared.sizes.Sizes.{Sizes}
 use Rattle.paper.specs.declared.refusal.Refusal.{Refusal}
-use Rattle.paper.specs.declared.answer.Opened.TheVariants.{Refused}
 use Rattle.paper.specs.declared.link.Link.{Link}
-use Rattle.paper.specs.declared.link.Linked.{Linked}
 use Rattle.paper.specs.Sizes.{sizes_of, capacity_of, bytes_of, in_range, shaped, size_checks, boot_checks}
 use Rattle.paper.specs.Index.{boot_of, Booted}
-use Rattle.paper.specs.Link.{fresh_link, head_of, boot_after, index_end, headed, body_of, took_link, took_row, elements_of, row_after}
+use Rattle.paper.specs.Link.{fresh_link, link_in, head_of, boot_after, index_end, headed, body_of, took_link, took_row, elements_of, row_after}
 use Rattle.paper.proofs.Sizing.{head-long}
 use Rattle.paper.proofs.Forms.{sizes-same}
 use Rattle.paper.proofs.Opening.{range-facts, facts-range, boot-sound, booted-clear, boot-fires}
@@ -258,7 +257,7 @@ module _ (len : ℕ) (row : List ℕ) (enough : 8192 ≤ length row) where
   taken-row p = rw append-nil at (link-so-far len row (p ∷ []) enough).row
 
   begun-link : (begun len row).link ≡ fresh_link len
-  begun-link = ap (λ (x : Linked). x.link) (begin-long len row enough)
+  begun-link = ap (link_in (fresh_link 0)) (begin-long len row enough)
 
   module _ (ps : List (List ℕ)) where
     -- the state after any pieces is that of their first n bytes
@@ -398,7 +397,7 @@ module _ (f row : List ℕ) (ps : List (List ℕ)) (enough : 8192 ≤ length row
         (λ (l : 32 ≤ length bytes). row-past (length f) bytes row enough i (omega (arith, ap capacity_of (sizes-are l)))) (lt-or-ge (length bytes) 32)
 
   -- its bootstrap is refused
-  module _ {r : Refusal} (e : boot_of f ≡ Refused r) where
+  module _ {r : Refusal} (e : boot_of f ≡ Err r) where
     file-broken : 512 ≤ length f → 32 ≤ length bytes → Unbroken (length f) bytes → ⊥
     file-broken h l g =
         let m : Met (SizeRow (length f) (sizes_of f) end) = subst (λ (y : Sizes). Met (SizeRow (length f) y end)) (sizes-come h l) g in

@@ -1,4 +1,5 @@
 -- 2026-07: pieces cut anywhere leave what one piece leaves, and finish says of it what open says of the whole file.
+use Rattle.std.specs.Prelude.{Ok, Err}
 use Prim.Native.Nat.{ℕ, ◌*◌, ◌≤◌, ◌<◌}
 use mathlib.Core.Path.{◌≡◌, refl, sym, ◌∙◌, ap}
 use mathlib.Core.List.{List, [], ◌∷◌, ◌++◌, append_assoc, append-nil}
@@ -9,12 +10,10 @@ use lib.ListN.{length, get_or}
 use Rattle.lent.proofs.Lists.{lt-or-ge}
 use Rattle.paper.specs.declared.sizes.Sizes.{Sizes}
 use Rattle.paper.specs.declared.refusal.Refusal.TheVariants.{NotAllCame}
-use Rattle.paper.specs.declared.answer.Opened.{Opened}
-use Rattle.paper.specs.declared.answer.Opened.TheVariants.{Opens, Refused}
+use Rattle.paper.specs.Answers.{Opened}
 use Rattle.paper.specs.declared.link.Link.{Link}
-use Rattle.paper.specs.declared.link.Linked.{Linked}
 use Rattle.paper.specs.Index.{row_run, boot_of, open_of}
-use Rattle.paper.specs.Link.{fresh_link, took_link, took_row, take_of, take_row, finish_of}
+use Rattle.paper.specs.Link.{fresh_link, took_link, took_row, take_of, take_row, finish_of, link_in}
 use Rattle.paper.proofs.Sizing.{head_in}
 use Rattle.paper.proofs.Opening.{boot-sound, open-refused}
 use Rattle.paper.proofs.Linking.{took-none, took-row-none, took-uncut, took-row-uncut, took-row-length, took-most, took-within, took-past, took-row-over, took-run, begin-long, take_long, take_short, take-row-long, take-row-short, take-row-length, take-row-past, finish-short, finish-early, finish-refused, finish-part, finish-whole}
@@ -24,11 +23,11 @@ use Rattle.demands.specs.Link.{State, begun, taking, after, joined, finished, Li
 -- ---- a call
 
 module _ (k : Link) (p row : List ℕ) where
-  link-long : 8192 ≤ length row → (take_of k p row).link ≡ took_link k p
-  link-long h = ap (λ (x : Linked). x.link) (take_long k p row h)
+  link-long : 8192 ≤ length row → link_in k (take_of k p row) ≡ took_link k p
+  link-long h = ap (link_in k) (take_long k p row h)
 
-  link-short : length row < 8192 → (take_of k p row).link ≡ k
-  link-short h = ap (λ (x : Linked). x.link) (take_short k p row h)
+  link-short : length row < 8192 → link_in k (take_of k p row) ≡ k
+  link-short h = ap (link_in k) (take_short k p row h)
 
 pub link-uncut : LinkUncut
 link-uncut k a b row made =
@@ -36,16 +35,16 @@ link-uncut k a b row made =
     ⊎_elim
     (λ (h : length row < 8192).
     record {
-      link = link-short (take_of k a row).link b (take_row k a row) (omega arith) ∙ link-short k a row h ∙ sym (link-short k (a ++ b) row h);
-      row = take-row-short (take_of k a row).link b (take_row k a row) (omega arith) ∙ take-row-short k a row h ∙ sym (take-row-short k (a ++ b) row h);
+      link = link-short (link_in k (take_of k a row)) b (take_row k a row) (omega arith) ∙ link-short k a row h ∙ sym (link-short k (a ++ b) row h);
+      row = take-row-short (link_in k (take_of k a row)) b (take_row k a row) (omega arith) ∙ take-row-short k a row h ∙ sym (take-row-short k (a ++ b) row h);
     })
     (λ (h : 8192 ≤ length row).
     record {
       link =
-          link-long (take_of k a row).link b (take_row k a row) (omega arith) ∙ ap (λ (j : Link). took_link j b) (link-long k a row h)
+          link-long (link_in k (take_of k a row)) b (take_row k a row) (omega arith) ∙ ap (λ (j : Link). took_link j b) (link-long k a row h)
           ∙ took-uncut k a b made ∙ sym (link-long k (a ++ b) row h);
       row =
-          take-row-long (take_of k a row).link b (take_row k a row) (omega arith) ∙ ap (λ (j : Link). took_row j b (take_row k a row)) (link-long k a row h)
+          take-row-long (link_in k (take_of k a row)) b (take_row k a row) (omega arith) ∙ ap (λ (j : Link). took_row j b (take_row k a row)) (link-long k a row h)
           ∙ ap (took_row (took_link k a) b) (take-row-long k a row h) ∙ took-row-uncut k a b row made h ∙ sym (take-row-long k (a ++ b) row h);
     })
     (lt-or-ge (length row) 8192)
@@ -78,7 +77,7 @@ module _ (len : ℕ) (row : List ℕ) (enough : 8192 ≤ length row) where
 
   begun-is : (ps : List (List ℕ)) → Is (after (begun len row) ps) (joined ps)
   begun-is ps =
-      after_is ps (begun len row) [] (ap (λ (x : Linked). x.link) (begin-long len row enough) ∙ sym (took-none fresh), sym (took-row-none fresh row enough))
+      after_is ps (begun len row) [] (ap (link_in (fresh_link 0)) (begin-long len row enough) ∙ sym (took-none fresh), sym (took-row-none fresh row enough))
 
 pub link-so-far : LinkSoFar
 link-so-far len row ps enough =
@@ -116,23 +115,23 @@ module _ (f row : List ℕ) (ps : List (List ℕ)) (enough : 8192 ≤ length row
   unfolding took_link boot_of
   said-short h = finish-short (took_link given bytes) (took_row given bytes row) long-row h ∙ sym (open-refused f (rw (lt-ltb (length f) 512 h)))
 
-  said-early : 512 ≤ length f → length bytes < 32 → said ≡ Refused NotAllCame
+  said-early : 512 ≤ length f → length bytes < 32 → said ≡ Err NotAllCame
   unfolding took_link
   said-early h l = finish-early (took_link given bytes) (took_row given bytes row) long-row h (omega (arith, took-most given bytes))
 
   module _ (low : Bytes f) (comes : Comes f bytes) where
-    said-part : (z : Sizes) → boot_of f ≡ Opens z → length bytes < z.n * z.l → said ≡ Refused NotAllCame
+    said-part : (z : Sizes) → boot_of f ≡ Ok z → length bytes < z.n * z.l → said ≡ Err NotAllCame
     said-part z e l =
         let B = boot-sound e in
         ⊎_elim (λ (h : length bytes < 32). said-early B.long h) (λ (h : 32 ≤ length bytes). finish-part f bytes B.long h comes row enough B l)
         (lt-or-ge (length bytes) 32)
 
-    said-whole : 512 ≤ length f → 32 ≤ length bytes → ((z : Sizes) → boot_of f ≡ Opens z → z.n * z.l ≤ length bytes) → said ≡ open_of f
+    said-whole : 512 ≤ length f → 32 ≤ length bytes → ((z : Sizes) → boot_of f ≡ Ok z → z.n * z.l ≤ length bytes) → said ≡ open_of f
     said-whole long begins whole = go (boot_of f) refl
       where
         go : (o : Opened) → boot_of f ≡ o → said ≡ open_of f
-        go (Opens z) e = finish-whole f bytes long begins comes row enough (boot-sound e) low (whole z e)
-        go (Refused r) e = finish-refused f bytes long begins comes row enough e ∙ sym (open-refused f e)
+        go (Ok z) e = finish-whole f bytes long begins comes row enough (boot-sound e) low (whole z e)
+        go (Err r) e = finish-refused f bytes long begins comes row enough e ∙ sym (open-refused f e)
 
 pub link-verdict : LinkVerdict
 link-verdict f row ps low enough comes =

@@ -1,4 +1,5 @@
 -- 2026-06: a search looks at the first 32 bytes and at the data section, so that it finds the same where the index is lost.
+use Rattle.std.specs.Prelude.{Ok, Err}
 use Prim.Native.Nat.{ℕ, zero, suc, ◌+◌, ◌-◌, ◌*◌, ◌≤◌, ◌<◌}
 use mathlib.Core.Path.{◌≡◌, refl, sym, ◌∙◌, ap}
 use mathlib.Core.Bool.{false}
@@ -15,7 +16,6 @@ use Rattle.lent.proofs.Parts.{length_part, part_at}
 use Rattle.paper.specs.declared.sizes.Sizes.{Sizes}
 use Rattle.paper.specs.declared.refusal.Refusal.{Refusal}
 use Rattle.paper.specs.declared.refusal.Refusal.TheVariants.{TooSmall}
-use Rattle.paper.specs.declared.answer.Listed.TheVariants.{Scans, Refused}
 use Rattle.paper.specs.Sizes.{sizes_of, start_of, bytes_of, boot_checks}
 use Rattle.paper.specs.Index.{Booted}
 use Rattle.paper.specs.Scan.{ruled_of}
@@ -94,7 +94,7 @@ search-same f g z o L =
     record {
       boots = sound-boot (booted f g z B L);
       finds = same-finds f g z B L;
-      answers = λ out. same-judged f g z B L out Refused (λ xs. Scans (length xs));
+      answers = λ out. same-judged f g z B L out Err (λ xs. Ok (length xs));
       lines = λ out. same-judged f g z B L out (λ r. out) (λ xs. write out 0 (find_lines xs));
     }
 

@@ -1,4 +1,5 @@
 -- 2026-06: the files that this store makes meet the premises of the search.
+use Rattle.std.specs.Prelude.{Ok}
 use Prim.Native.Nat.{ℕ, ◌+◌, ◌-◌, ◌*◌, ◌/◌, ◌≤◌, ◌<◌}
 use mathlib.Core.Path.{◌≡◌, refl, sym, ◌∙◌, ap, subst}
 use mathlib.Core.Bool.{Bool, true, false, cond}
@@ -15,9 +16,6 @@ use Rattle.lent.proofs.Parts.{length_part}
 use Rattle.lent.proofs.Writes.{length-pad}
 use Rattle.paper.specs.declared.sizes.Sizes.{Sizes}
 use Rattle.paper.specs.declared.sizes.Run.{Run}
-use Rattle.paper.specs.declared.answer.Opened.TheVariants.{Opens}
-use Rattle.paper.specs.declared.answer.Ruled.TheVariants.{Keeps}
-use Rattle.paper.specs.declared.answer.Asked.TheVariants.{Is}
 use Rattle.paper.specs.Sizes.{sizes_of, renewed, capacity_of, start_of}
 use Rattle.paper.specs.Index.{run_of, Full, shown_of, open_of, Sound}
 use Rattle.paper.specs.Scan.{headlen, datalen, ruled_of}
@@ -62,7 +60,7 @@ abbrev Filled : ℕ → List ℕ → Type 0
 Filled l bytes = 0 < length bytes → Fill l bytes
 
 -- a scan that obeys the rules for saving, padded to whole records
-pad-fills : (l : ℕ) (scan : List ℕ) → 1 ≤ l → ruled_of scan true ≡ Keeps (headlen scan) (datalen scan) → Fill l (pad ((length scan + (l - 1)) / l * l) scan)
+pad-fills : (l : ℕ) (scan : List ℕ) → 1 ≤ l → ruled_of scan true ≡ Ok (headlen scan, datalen scan) → Fill l (pad ((length scan + (l - 1)) / l * l) scan)
 unfolding pad
 pad-fills l scan l₁ e =
     let n : ℕ = (length scan + (l - 1)) / l * l in
@@ -76,8 +74,8 @@ pad-fills l scan l₁ e =
 -- what an accepted operation gives its slot
 given-fills : (f : List ℕ) (op : Op) → 1 ≤ (sizes_of f).l → takes f op ≡ true → Filled (sizes_of f).l (given f (sizes_of f) op).records
 given-fills f (save slot scan about) l e h =
-    pad-fills (sizes_of f).l scan l (save-taken f slot scan about (accepts (save_of f slot scan about).answer e)).placed.keeps
-given-fills f (keep scan about) l e h = pad-fills (sizes_of f).l scan l (keep_taken f scan about (accepts (keep_of f scan about).answer e)).placed.keeps
+    pad-fills (sizes_of f).l scan l (save-taken f slot scan about (accepts (save_of f slot scan about) e)).placed.keeps
+given-fills f (keep scan about) l e h = pad-fills (sizes_of f).l scan l (keep_taken f scan about (accepts (keep_of f scan about) e)).placed.keeps
 given-fills f (clear slot) l e h = absurd (omega arith)
 
 -- ---- a slot that fills its records, by its bytes
@@ -141,7 +139,7 @@ unfolding reached
 reached-takes f op cut e = (also-true (takes f op) (leb (records_of (sizes_of f) op + 2) (steps_of cut)) e).0
 
 -- an operation, cut anywhere, leaves every slot filled
-change-fills : (f : List ℕ) (z : Sizes) → open_of f ≡ Opens z → (op : Op) (cut : Cut) (h : Holding) (s : ℕ)
+change-fills : (f : List ℕ) (z : Sizes) → open_of f ≡ Ok z → (op : Op) (cut : Cut) (h : Holding) (s : ℕ)
     → Filled z.l (h s).records → Filled z.l (change f op cut h s).records
 change-fills f z o op cut h s k = go (reached f op cut) refl
   where
@@ -159,7 +157,7 @@ change-fills f z o op cut h s k = go (reached f op cut) refl
     go true e = own (reached-takes f op cut e) (eqb s (slot_of f op))
     go false e = k
 
-holds-fill : (os : List Done) (f : List ℕ) (z : Sizes) → open_of f ≡ Opens z → Wholes os → (h : Holding)
+holds-fill : (os : List Done) (f : List ℕ) (z : Sizes) → open_of f ≡ Ok z → Wholes os → (h : Holding)
     → ((s : ℕ) → 1 ≤ s → s ≤ capacity_of z → Filled z.l (h s).records) → (s : ℕ) → 1 ≤ s → s ≤ capacity_of z → Filled z.l (holds f os h s).records
 holds-fill [] f z o w h k s a b = k s a b
 holds-fill (x ∷ os) f z o w h k s a b =
@@ -168,7 +166,7 @@ holds-fill (x ∷ os) f z o w h k s a b =
     (λ t c d. change-fills f z o x.op x.cut h t (k t c d)) s a b
 
 -- the slots of a file whose scans all fill their records
-start-fills : (f : List ℕ) (z : Sizes) → open_of f ≡ Opens z → AllFill f z → (s : ℕ) → 1 ≤ s → s ≤ capacity_of z → Filled z.l (shown_of f z s)
+start-fills : (f : List ℕ) (z : Sizes) → open_of f ≡ Ok z → AllFill f z → (s : ℕ) → 1 ≤ s → s ≤ capacity_of z → Filled z.l (shown_of f z s)
 start-fills f z o A s a b h =
     let S = open-sound o in
     let full = shown-full S s a b h in
@@ -193,7 +191,7 @@ pub found-stays : FoundStays
 found-stays f z o G A os w d =
     let g : List ℕ = after f os in
     let x = power-cut f z o os w in
-    let yes : gaps_of g ≡ Is true = gaps-stay f z o ((gaps-exactly f z o).so_yes G) os w d in
+    let yes : gaps_of g ≡ Ok true = gaps-stay f z o ((gaps-exactly f z o).so_yes G) os w d in
     let gaps = (gaps-exactly g _ x.opens).yes_so yes in
     let fill = fills-stay f z o A os w _ x.opens in
     record {

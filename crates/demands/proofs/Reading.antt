@@ -1,4 +1,5 @@
 -- Demand 2, of what list, show, read, class and data answer.
+use Rattle.std.specs.Prelude.{Ok, Err}
 use Prim.Native.Nat.{ℕ, ◌+◌, ◌-◌, ◌*◌, ◌/◌, ◌≤◌, ◌<◌}
 use mathlib.Core.Path.{◌≡◌, refl, sym, ◌∙◌, ap, subst}
 use mathlib.Core.Bool.{true, false}
@@ -14,19 +15,15 @@ use Rattle.lent.specs.Lists.{threes}
 use Rattle.lent.specs.Checks.{Check, check, judge}
 use Rattle.lent.specs.Part.{part}
 use Rattle.lent.specs.Write.{write}
-use Rattle.lent.proofs.Checks.{append-clear, clear-all, judge-clear, judge-passed}
+use Rattle.lent.proofs.Checks.{append-clear, clear-all, judge-clear, judge-passed, judged-ok, err≢ok, ok-same}
 use Rattle.lent.proofs.Parts.{length_part}
 use Rattle.lent.proofs.Lists.{length-threes}
 use Rattle.lent.proofs.Writes.{length-write, write-after, threes-in}
 use Rattle.paper.specs.declared.sizes.Sizes.{Sizes}
 use Rattle.paper.specs.declared.sizes.Run.{Run}
 use Rattle.paper.specs.declared.refusal.Refusal.{Refusal}
-use Rattle.paper.specs.declared.refusal.Refusal.TheVariants.{BadScan, TooSmall}
-use Rattle.paper.specs.declared.answer.Listed.TheVariants as listed
-use Rattle.paper.specs.declared.answer.Ruled.{Ruled}
-use Rattle.paper.specs.declared.answer.Ruled.TheVariants.{Keeps, Breaks}
-use Rattle.paper.specs.declared.answer.Span.{Span}
-use Rattle.paper.specs.declared.answer.Span.TheVariants.{Part, Refused}
+use Rattle.paper.specs.declared.refusal.Refusal.TheVariants.{TooSmall}
+use Rattle.paper.specs.Answers.{Ruled, Span}
 use Rattle.paper.specs.Sizes.{sizes_of, version_of, word_at, home_of, start_of}
 use Rattle.paper.specs.Index.{run_of, shown_of, open_checks, Lies, Sound}
 use Rattle.paper.specs.Scan.{classes_of, starts_of, headlen, datalen, class_at, class_end, ruled_of, of_ruled, class_of, data_of, Rule, Kept}
@@ -67,11 +64,11 @@ module _ {A : Type 0} (a b c : A → ℕ) (d : A) (cs : List (Check Refusal)) (x
     pub beyond : (i : ℕ) → 3 * n ≤ i → get_or left i 0 ≡ get_or out i 0
     pub as_long : length left ≡ length out
 
-  pub reported : (n : ℕ) → judge listed.Refused report_checks (listed.Scans (length xs)) ≡ listed.Scans n → Reported n
+  pub reported : (n : ℕ) → judge Err report_checks (Ok (length xs)) ≡ Ok n → Reported n
   reported n e =
       let ls : List ℕ = threes a b c xs in
-      let p = judge-passed listed.Refused report_checks (listed.Scans (length xs)) (listed.Scans n) (λ r. never r n) e in
-      let k : n ≡ length xs = sym (same (length xs) n p.1) in
+      let p = judged-ok report_checks (length xs) e in
+      let k : n ≡ length xs = sym p.1 in
       let own : List (Check Refusal) = check (ltb (length out) (3 * length xs)) TooSmall ∷ [] in
       let q = (clear-all own (append-clear cs own p.0).1).0 in
       let l = length-threes a b c xs in
@@ -85,12 +82,6 @@ module _ {A : Type 0} (a b c : A → ℕ) (d : A) (cs : List (Check Refusal)) (x
         beyond = λ i h. rw w (write-after out 0 ls (omega arith) i (omega arith));
         as_long = rw w (length-write out 0 ls (omega arith));
       }
-    where
-      never : (r : Refusal) (n : ℕ) → listed.Refused r ≡ listed.Scans n → ⊥
-      never r n e = let z : ◌≡◌ {A = ℕ} 0 1 = cc in omega arith
-
-      same : (a b : ℕ) → listed.Scans a ≡ listed.Scans b → a ≡ b
-      same a b e = cc
 
 pub list-lines : ListLines
 unfolding listed_of listed_out
@@ -105,17 +96,6 @@ list-lines f out n e =
       beyond = r.beyond;
       as_long = r.as_long;
     }
-
--- ---- spans
-
-never : (r : Refusal) (a b : ℕ) → Refused r ≡ Part a b → ⊥
-never r a b e = let z : ◌≡◌ {A = ℕ} 0 1 = cc in omega arith
-
-from-same : (a b c d : ℕ) → Part a b ≡ Part c d → a ≡ c
-from-same a b c d e = cc
-
-to_same : (a b c d : ℕ) → Part a b ≡ Part c d → b ≡ d
-to_same a b c d e = cc
 
 -- ---- show
 
@@ -155,19 +135,18 @@ module _ (f : List ℕ) (s : ℕ) (T : SlotTaken f s) where
 pub show-records : ShowRecords
 unfolding show_of
 show-records f s from to e =
-    let p = judge-passed Refused (slot_checks f s) (Part (start_of (sizes_of f) (run_of f (sizes_of f) s).first) ((run_of f (sizes_of f) s).last * (sizes_of f).l)) (Part from to) (λ r. never r from to) e in
-    subst (λ (x : ℕ). Shown f (sizes_of f) s x to) (from-same _ _ from to p.1)
-    (subst (λ (x : ℕ). Shown f (sizes_of f) s (start_of (sizes_of f) (run_of f (sizes_of f) s).first) x) (to_same _ _ from to p.1) (shown-is f s (slot-is-taken f s p.0)))
+    let p = judged-ok (slot_checks f s) (start_of (sizes_of f) (run_of f (sizes_of f) s).first, (run_of f (sizes_of f) s).last * (sizes_of f).l) e in
+    subst (λ (x : ℕ × ℕ). Shown f (sizes_of f) s x.0 x.1) p.1 (shown-is f s (slot-is-taken f s p.0))
 
 -- ---- read
 
 -- a part of a scan is given only where the rules are kept
-ruled-part : (s : List ℕ) (k : ℕ → ℕ → Span) (a b : ℕ) → of_ruled k (ruled_of s false) ≡ Part a b → (ruled_of s false ≡ Keeps (headlen s) (datalen s)) × (k (headlen s) (datalen s) ≡ Part a b)
+ruled-part : (s : List ℕ) (k : ℕ → ℕ → Span) (a b : ℕ) → of_ruled k (ruled_of s false) ≡ Ok (a, b) → (ruled_of s false ≡ Ok (headlen s, datalen s)) × (k (headlen s) (datalen s) ≡ Ok (a, b))
 ruled-part s k a b e = go (ruled_of s false) refl e
   where
-    go : (x : Ruled) → ruled_of s false ≡ x → of_ruled k x ≡ Part a b → (ruled_of s false ≡ Keeps (headlen s) (datalen s)) × (k (headlen s) (datalen s) ≡ Part a b)
-    go (Keeps head rest) p e = let l = keeps-lengths p in rw (l.head_is, l.rest_is) (p, e)
-    go (Breaks n) p e = absurd (never (BadScan n) a b e)
+    go : (x : Ruled) → ruled_of s false ≡ x → of_ruled k x ≡ Ok (a, b) → (ruled_of s false ≡ Ok (headlen s, datalen s)) × (k (headlen s) (datalen s) ≡ Ok (a, b))
+    go (Ok (head, rest)) p e = let l = keeps-lengths p in rw (l.head_is, l.rest_is) (p, e)
+    go (Err n) p e = absurd (err≢ok e)
 
 -- the first k bytes of a part
 front-part : (a b k : ℕ) (f : List ℕ) → k ≤ b - a → take k (part a b f) ≡ part a (a + k) f
@@ -179,18 +158,15 @@ read-scan f s from to e =
     let z : Sizes = sizes_of f in
     let a : ℕ = start_of z (run_of f z s).first in
     let b : ℕ = (run_of f z s).last * z.l in
-    let p = judge-passed Refused (read_checks f s) (read_in a (ruled_of (shown_of f z s) false)) (Part from to) (λ r. never r from to) e in
-    let q = ruled-part (shown_of f z s) (λ head rest. Part a (a + (head + rest))) from to p.1 in
-    let x : a ≡ from = from-same _ _ from to q.1 in
-    let y : a + (headlen (shown_of f z s) + datalen (shown_of f z s)) ≡ to = to_same _ _ from to q.1 in
+    let p = judge-passed Err (read_checks f s) (read_in a (ruled_of (shown_of f z s) false)) (Ok (from, to)) (λ r. err≢ok) e in
+    let q = ruled-part (shown_of f z s) (λ head rest. Ok (a, a + (head + rest))) from to p.1 in
     let c = append-clear (slot_checks f s) (other_scan f s ∷ []) p.0 in
     let h : Shown f z s a b = shown-is f s (slot-is-taken f s c.0) in
     let m : version_one (version_of f) f (home_of z s) ≡ true = not-false _ (clear-all (other_scan f s ∷ []) c.1).0 in
-    subst (Read f s from) y
-    (subst (λ (c : ℕ). Read f s c (a + (headlen (shown_of f z s) + datalen (shown_of f z s)))) x
+    subst (λ (x : ℕ × ℕ). Read f s x.0 x.1) (ok-same q.1)
     (record {
       end = b;
-      shows = judge-clear Refused (slot_checks f s) (Part a b) c.0;
+      shows = judge-clear Err (slot_checks f s) (Ok (a, b)) c.0;
       version-one = λ v. ap (λ (x : ℕ). be16 f (x + 4)) (home-is z s) ∙ one-facts (version_of f) f (home_of z s) m v;
       keeps = kept_rule (kept q.0);
       so_many = refl;
@@ -199,11 +175,11 @@ read-scan f s from to e =
           subst (λ (s : List ℕ). Rule s false n)
           (front-part a b (headlen (shown_of f z s) + datalen (shown_of f z s)) f (omega (arith, (keeps-lengths q.0).within, length_part a b f h.within)))
           (kept_rule (kept (rules-taken (shown_of f z s) false q.0)) n);
-    }))
+    })
 
 -- ---- class and data
 
-tiled : (s : List ℕ) → ruled_of s false ≡ Keeps (headlen s) (datalen s) → Tiled s
+tiled : (s : List ℕ) → ruled_of s false ≡ Ok (headlen s, datalen s) → Tiled s
 unfolding class_at
 tiled s e =
     let k : Kept s false (headlen s) (datalen s) = kept e in

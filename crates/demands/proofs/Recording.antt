@@ -1,4 +1,5 @@
 -- A step that wrote changed one record, the one that it names.
+use Rattle.std.specs.Prelude.{Ok}
 use Prim.Native.Nat.{ℕ, ◌+◌, ◌-◌, ◌*◌, ◌≤◌, ◌<◌}
 use mathlib.Core.Path.{◌≡◌, refl, sym, ◌∙◌, ap, subst}
 use mathlib.Core.Bool.{Bool, true, false}
@@ -124,7 +125,7 @@ record Writing (f scan : List ℕ) (j : Job) : Type 0 where
 
 module _ (f scan : List ℕ) (j : Job) where
   -- so it is where a step wrote: its job has moved on, and none else moves one
-  writing : (r count : ℕ) → step_answer f scan j ≡ step.Wrote r count → Writing f scan j
+  writing : (r count : ℕ) → step_answer f scan j ≡ Ok (step.Wrote r count) → Writing f scan j
   writing r count e = go (agrees f scan j) (has_left (sizes_of f) j) refl refl
     where
       moves : step_job f scan j ≡ j → ⊥
@@ -135,13 +136,13 @@ module _ (f scan : List ℕ) (j : Job) where
       go true false p q = absurd (moves (job-past f scan j (sizes_of f) p refl (ltb-false j.written (total_of (sizes_of f) j) q)))
       go true true p q = record { agree = p; left = ltb-true j.written (total_of (sizes_of f) j) q }
 
-  record-named : (r count : ℕ) → step_answer f scan j ≡ step.Wrote r count → Named f scan j r count
+  record-named : (r count : ℕ) → step_answer f scan j ≡ Ok (step.Wrote r count) → Named f scan j r count
   record-named r count e =
       let w = writing r count e in
       let x = wrote-next f scan j r count e in
       record { listed = omega (arith, w.left, length-writes f (sizes_of f) j scan); record_is = x.record_is; counts = omega (arith, x.counts) }
 
-  job-renewed : (r count : ℕ) → step_answer f scan j ≡ step.Wrote r count → Renewed j (step_job f scan j) count (take 32 (step_file f scan j))
+  job-renewed : (r count : ℕ) → step_answer f scan j ≡ Ok (step.Wrote r count) → Renewed j (step_job f scan j) count (take 32 (step_file f scan j))
   job-renewed r count e =
       let w = writing r count e in
       let c = (wrote-next f scan j r count e).counts in

@@ -1,5 +1,6 @@
 -- A file said in the other form: what it answers to the question of the gaps and to the search, which rest on the runs and on the data section, and what of its N
 -- records is zeros.
+use Rattle.std.specs.Prelude.{Ok, Err}
 use Prim.Native.Nat.{ℕ, zero, suc, ◌+◌, ◌-◌, ◌*◌, ◌≤◌, ◌<◌}
 use mathlib.Core.Path.{◌≡◌, refl, sym, ◌∙◌, ap}
 use mathlib.Core.Bool.{true, false, cond}
@@ -22,10 +23,7 @@ use Rattle.lent.proofs.Writes.{get_or-zeros, pad-at}
 use Rattle.paper.specs.declared.sizes.Sizes.{Sizes}
 use Rattle.paper.specs.declared.refusal.Refusal.{Refusal}
 use Rattle.paper.specs.declared.refusal.Refusal.TheVariants.{TooSmall}
-use Rattle.paper.specs.declared.answer.Asked.TheVariants.{Is}
-use Rattle.paper.specs.declared.answer.Listed.TheVariants as listed
-use Rattle.paper.specs.declared.answer.Ruled.{Ruled}
-use Rattle.paper.specs.declared.answer.Ruled.TheVariants.{Keeps, Breaks}
+use Rattle.paper.specs.Answers.{Ruled}
 use Rattle.paper.specs.Sizes.{by_form, sizes_of, start_of, home_of, capacity_of, boot_checks, Shaped}
 use Rattle.paper.specs.Index.{run_of, empty, Booted, Sound}
 use Rattle.paper.specs.Scan.{ruled_of}
@@ -47,8 +45,8 @@ use Rattle.demands.specs.Convert.{SameData}
 
 module _ (v : ℕ) (g : List ℕ) (z : Sizes) where
   takes-form : (x : Ruled) → takes (in_form v z) x ≡ takes z x
-  takes-form (Keeps head rest) = refl
-  takes-form (Breaks reason) = refl
+  takes-form (Ok (head, rest)) = refl
+  takes-form (Err reason) = refl
 
   at-form : (r : ℕ) → takes_at g (in_form v z) r ≡ takes_at g z r
   unfolding takes_at
@@ -126,7 +124,7 @@ module _ (v : ℕ) (form : v ≤ 1) {f : List ℕ} {z : Sizes} (S : Sound f z) (
   zero_same = ap (λ (k : ℕ). eqb k 0) (least-same (left_at g y) (left_at f z) (z.n + z.d) left-same)
 
   gaps-same : gaps_of g ≡ gaps_of f
-  gaps-same = gaps-is g y (sound-open G) ∙ ap Is zero_same ∙ sym (gaps-is f z (sound-open S))
+  gaps-same = gaps-is g y (sound-open G) ∙ ap Ok zero_same ∙ sym (gaps-is f z (sound-open S))
 
   -- the search
   found-same : find_of g y ≡ find_of f z
@@ -144,7 +142,7 @@ module _ (v : ℕ) (form : v ≤ 1) {f : List ℕ} {z : Sizes} (S : Sound f z) (
       record {
         gaps = gaps-same;
         finds = ap (find_of g) G.booted.reads ∙ found-same ∙ ap (find_of f) (sym S.booted.reads);
-        search = λ out. reported-same listed.Refused (λ xs. listed.Scans (length xs)) out;
+        search = λ out. reported-same Err (λ xs. Ok (length xs)) out;
         reported = λ out. reported-same (λ r. out) (λ xs. write out 0 (find_lines xs)) out;
       }
 

@@ -1,4 +1,5 @@
 -- Demand 2, of the refusals: every call gives each exactly under its condition and in order, and is accepted exactly where none is given.
+use Rattle.std.specs.Prelude.{Ok, Err}
 use Prim.Native.Nat.{ℕ, ◌+◌, ◌*◌, ◌≤◌, max}
 use mathlib.Core.Path.{◌≡◌, refl, sym, ◌∙◌, ap, subst}
 use mathlib.Core.Bool.{Bool, true, false, not, cond}
@@ -15,19 +16,8 @@ use Rattle.lent.proofs.Checks.{judge-append, judge-fires}
 use Rattle.paper.specs.declared.sizes.Sizes.{Sizes}
 use Rattle.paper.specs.declared.refusal.Refusal.{Refusal}
 use Rattle.paper.specs.declared.refusal.Refusal.TheVariants.{NoSuchSlot, NoEmptySlot, BadScan, Disagrees, Differs, TooSmall, NotVersionOne}
-use Rattle.paper.specs.declared.answer.Opened.{Opened}
-use Rattle.paper.specs.declared.answer.Opened.TheVariants as opened
-use Rattle.paper.specs.declared.answer.Listed.TheVariants as listed
-use Rattle.paper.specs.declared.answer.Ruled.{Ruled}
-use Rattle.paper.specs.declared.answer.Ruled.TheVariants.{Keeps, Breaks}
-use Rattle.paper.specs.declared.answer.Span.{Span}
-use Rattle.paper.specs.declared.answer.Span.TheVariants as span
-use Rattle.paper.specs.declared.answer.Taken.TheVariants as taken
-use Rattle.paper.specs.declared.answer.Asked.TheVariants as asked
-use Rattle.paper.specs.declared.entry.Found.{Found}
+use Rattle.paper.specs.Answers.{Opened, Ruled, Span, Found, Begun, Linked, StepAnswer, taken_in}
 use Rattle.paper.specs.declared.job.Job.{Job}
-use Rattle.paper.specs.declared.job.Begun.{Begun}
-use Rattle.paper.specs.declared.job.Step.{Step}
 use Rattle.paper.specs.declared.job.Step.TheVariants as step
 use Rattle.paper.specs.declared.link.Link.{Link}
 use Rattle.paper.specs.Refusals.{opened_says, listed_says, span_says, taken_says, asked_says, step_says}
@@ -35,12 +25,12 @@ use Rattle.paper.specs.Sizes.{sizes_of, version_of, capacity_of, home_of, start_
 use Rattle.paper.specs.Index.{run_of, row_run, empty, shown_of, open_checks, open_of, Lies, Sound}
 use Rattle.paper.specs.Scan.{starts_of, classes_of, headlen, datalen, class_in, ruled_of, of_ruled, class_of, data_of, Rule}
 use Rattle.paper.specs.Look.{list_of, listed_of, no_slot, held_checks, slot_checks, other_scan, read_checks, found_of, show_of, read_of, InIndex}
-use Rattle.paper.specs.Store.{blank_sizes, blank_tests, blank_checks, blank_of, records_for, free_at, free_place, empty_slot, refused, place_for, keep_slot, reason_of, scan_checks, save_of, keep_of, clear_of, total_of}
+use Rattle.paper.specs.Store.{blank_sizes, blank_tests, blank_checks, blank_of, records_for, free_at, free_place, empty_slot, place_for, keep_slot, reason_of, scan_checks, save_of, keep_of, clear_of, total_of}
 use Rattle.paper.specs.Gaps.{gaps_zero, gaps_of}
 use Rattle.paper.specs.Find.{find_of, report_of}
 use Rattle.paper.specs.Step.{agrees, has_left, wrote_of, stands, confirmed, confirm_of, step_answer, Agreeing, Standing}
 use Rattle.paper.specs.Convert.{other_magic, wide_run, convert_checks, convert_of}
-use Rattle.paper.specs.Link.{row_short, finish_checks, begin_of, take_of, finish_of}
+use Rattle.paper.specs.Link.{fresh_link, took_link, row_short, finish_checks, begin_of, take_of, finish_of}
 use Rattle.paper.proofs.Converting.{magic-facts, facts-magic, narrow-facts, facts-narrow, going-facts, facts-going}
 use Rattle.paper.proofs.Forms.{one-facts, facts-one}
 use Rattle.paper.proofs.Opening.{shaped-facts, facts-shaped, empty-facts, facts-empty, full-facts, facts-full, then-refused, then-opens, open-reads}
@@ -84,13 +74,13 @@ module _ (scan : List ℕ) (saving : Bool) where
       (λ n a b t. rule-facts scan saving n (not-false _ t)) k)
 
   -- what is asked of a scan, as checks
-  ruled-judge : (k : ℕ → ℕ → Span) → of_ruled k (ruled_of scan saving) ≡ judge span.Refused (rule_check scan saving ∷ []) (k (headlen scan) (datalen scan))
+  ruled-judge : (k : ℕ → ℕ → Span) → of_ruled k (ruled_of scan saving) ≡ judge Err (rule_check scan saving ∷ []) (k (headlen scan) (datalen scan))
   ruled-judge k = go (ruled_of scan saving) refl
     where
       go : (x : Ruled) → ruled_of scan saving ≡ x
-          → of_ruled k x ≡ judge span.Refused (check (ltb 0 (reason_of x)) (BadScan (reason_of x)) ∷ []) (k (headlen scan) (datalen scan))
-      go (Keeps head rest) e = let l = keeps-lengths e in rw (l.head_is, l.rest_is) refl
-      go (Breaks n) e = rw (lt-ltb 0 n (some-reason scan saving e)) refl
+          → of_ruled k x ≡ judge Err (check (ltb 0 (reason_of x)) (BadScan (reason_of x)) ∷ []) (k (headlen scan) (datalen scan))
+      go (Ok (head, rest)) e = let l = keeps-lengths e in rw (l.head_is, l.rest_is) refl
+      go (Err n) e = rw (lt-ltb 0 n (some-reason scan saving e)) refl
 
 -- 13: a place, in plain facts
 module _ (f scan : List ℕ) (S : Sound f (sizes_of f)) (long : 256 ≤ length scan) where
@@ -213,9 +203,9 @@ finish-row k row =
 ruled-told : (s : List ℕ) (k : ℕ → ℕ → Span) → ((a b : ℕ) → (span_says (k a b)).number ≡ 0) → Told (span_says (of_ruled k (ruled_of s false))) (RuleRow s false end)
 ruled-told s k grants =
     subst (λ (x : Span). Told (span_says x) (RuleRow s false end)) (sym (ruled-judge s false k))
-    (told span_says span.Refused (k (headlen s) (datalen s)) (λ r. refl) (grants (headlen s) (datalen s)) (rule-row s false (λ h. nothing)))
+    (told span_says Err (k (headlen s) (datalen s)) (λ r. refl) (grants (headlen s) (datalen s)) (rule-row s false (λ h. nothing)))
 
-part_says : (t : Bool) (a b c d : ℕ) → (span_says (cond t (span.Part a b) (span.Part c d))).number ≡ 0
+part_says : (t : Bool) (a b c d : ℕ) → (span_says (cond t (Ok (a, b)) (Ok (c, d)))).number ≡ 0
 part_says true a b c d = refl
 part_says false a b c d = refl
 
@@ -229,15 +219,15 @@ unfolding read_of
 read_told f s =
     let from : ℕ = start_of (sizes_of f) (run_of f (sizes_of f) s).first in
     let shown : List ℕ = shown_of f (sizes_of f) s in
-    let k : ℕ → ℕ → Span = λ head rest. span.Part from (from + (head + rest)) in
+    let k : ℕ → ℕ → Span = λ head rest. Ok (from, from + (head + rest)) in
     subst (λ (x : Span). Told (span_says x) (ReadRow f s))
-    (judge-append span.Refused (read_checks f s) (rule_check shown false ∷ []) (k (headlen shown) (datalen shown))
-    ∙ ap (judge span.Refused (read_checks f s)) (sym (ruled-judge shown false k)))
-    (told span_says span.Refused (k (headlen shown) (datalen shown)) (λ r. refl) refl (slot_row f s (one-asks f s (rule-row shown false (λ h. nothing)))))
+    (judge-append Err (read_checks f s) (rule_check shown false ∷ []) (k (headlen shown) (datalen shown))
+    ∙ ap (judge Err (read_checks f s)) (sym (ruled-judge shown false k)))
+    (told span_says Err (k (headlen shown) (datalen shown)) (λ r. refl) refl (slot_row f s (one-asks f s (rule-row shown false (λ h. nothing)))))
 
 -- ---- a step
 
-confirm-says : (b : Bool) (w : ℕ) → (step_says (cond b (step.Saved 0 w) (step.Cleared 0 w))).number ≡ 0
+confirm-says : (b : Bool) (w : ℕ) → (step_says (cond b (Ok (step.Saved 0 w)) (Ok (step.Cleared 0 w)))).number ≡ 0
 confirm-says true w = refl
 confirm-says false w = refl
 
@@ -246,13 +236,13 @@ module _ (f scan : List ℕ) (j : Job) where
   ds = check (not (stands f scan j (sizes_of f))) Differs ∷ []
 
   -- the confirming step's judgement, as checks
-  confirm-judge : (o : Opened) → open_of f ≡ o → confirm_of f scan j o ≡ judge step.Refused (open_checks f ++ ds) (confirmed j)
-  confirm-judge (opened.Refused q) e = sym (judge-fires step.Refused (open_checks f ++ ds) (confirmed j) q (then-refused f ds e))
-  confirm-judge (opened.Opens z) e =
-      subst (λ (y : Sizes). confirm_of f scan j (opened.Opens y) ≡ judge step.Refused ds (confirmed j)) (open-reads f e) (go (stands f scan j (sizes_of f)))
-      ∙ ap (answer step.Refused (confirmed j)) (sym (then-opens f ds e))
+  confirm-judge : (o : Opened) → open_of f ≡ o → confirm_of f scan j o ≡ judge Err (open_checks f ++ ds) (confirmed j)
+  confirm-judge (Err q) e = sym (judge-fires Err (open_checks f ++ ds) (confirmed j) q (then-refused f ds e))
+  confirm-judge (Ok z) e =
+      subst (λ (y : Sizes). confirm_of f scan j (Ok y) ≡ judge Err ds (confirmed j)) (open-reads f e) (go (stands f scan j (sizes_of f)))
+      ∙ ap (answer Err (confirmed j)) (sym (then-opens f ds e))
     where
-      go : (b : Bool) → cond b (confirmed j) (step.Refused Differs) ≡ judge step.Refused (check (not b) Differs ∷ []) (confirmed j)
+      go : (b : Bool) → cond b (confirmed j) (Err Differs) ≡ judge Err (check (not b) Differs ∷ []) (confirmed j)
       go true = refl
       go false = refl
 
@@ -277,21 +267,21 @@ module _ (f scan : List ℕ) (j : Job) where
       go false q a = asked-so (omega (arith, ltb-false j.written (total_of (sizes_of f) j) q, a.left)) stand-row
 
   step-told : (a left : Bool) → agrees f scan j ≡ a → has_left (sizes_of f) j ≡ left
-      → Told (step_says (cond a (cond left (wrote_of f (sizes_of f) scan j) (confirm_of f scan j (open_of f))) (step.Refused Disagrees))) (StepRow f scan j)
+      → Told (step_says (cond a (cond left (wrote_of f (sizes_of f) scan j) (confirm_of f scan j (open_of f))) (Err Disagrees))) (StepRow f scan j)
   step-told a true p q =
-      subst (λ (b : Bool). Told (step_says (cond b (wrote_of f (sizes_of f) scan j) (step.Refused Disagrees))) (StepRow f scan j)) p
-      (subst (λ (x : Step). Told (step_says x) (StepRow f scan j)) (go (agrees f scan j))
-      (told step_says step.Refused (wrote_of f (sizes_of f) scan j) (λ r. refl) refl (agree-row true q)))
+      subst (λ (b : Bool). Told (step_says (cond b (wrote_of f (sizes_of f) scan j) (Err Disagrees))) (StepRow f scan j)) p
+      (subst (λ (x : StepAnswer). Told (step_says x) (StepRow f scan j)) (go (agrees f scan j))
+      (told step_says Err (wrote_of f (sizes_of f) scan j) (λ r. refl) refl (agree-row true q)))
     where
-      go : (b : Bool) → judge step.Refused (check (not b) Disagrees ∷ []) (wrote_of f (sizes_of f) scan j) ≡ cond b (wrote_of f (sizes_of f) scan j) (step.Refused Disagrees)
+      go : (b : Bool) → judge Err (check (not b) Disagrees ∷ []) (wrote_of f (sizes_of f) scan j) ≡ cond b (wrote_of f (sizes_of f) scan j) (Err Disagrees)
       go true = refl
       go false = refl
   step-told a false p q =
-      subst (λ (b : Bool). Told (step_says (cond b (confirm_of f scan j (open_of f)) (step.Refused Disagrees))) (StepRow f scan j)) p
-      (subst (λ (x : Step). Told (step_says x) (StepRow f scan j)) (go (agrees f scan j))
-      (told step_says step.Refused (confirmed j) (λ r. refl) (confirm-says j.saves j.written) (agree-row false q)))
+      subst (λ (b : Bool). Told (step_says (cond b (confirm_of f scan j (open_of f)) (Err Disagrees))) (StepRow f scan j)) p
+      (subst (λ (x : StepAnswer). Told (step_says x) (StepRow f scan j)) (go (agrees f scan j))
+      (told step_says Err (confirmed j) (λ r. refl) (confirm-says j.saves j.written) (agree-row false q)))
     where
-      go : (b : Bool) → judge step.Refused (check (not b) Disagrees ∷ (open_checks f ++ ds)) (confirmed j) ≡ cond b (confirm_of f scan j (open_of f)) (step.Refused Disagrees)
+      go : (b : Bool) → judge Err (check (not b) Disagrees ∷ (open_checks f ++ ds)) (confirmed j) ≡ cond b (confirm_of f scan j (open_of f)) (Err Disagrees)
       go true = sym (confirm-judge (open_of f) refl)
       go false = refl
 
@@ -301,24 +291,24 @@ pub refused-exactly : RefusedExactly
 unfolding open_of gaps_of listed_of report_of found_of show_of read_of class_of data_of save_of keep_of clear_of step_answer blank_of convert_of begin_of take_of finish_of
 refused-exactly =
     record {
-      open_file = λ f. told opened_says opened.Refused (opened.Opens (sizes_of f)) (λ r. refl) refl (open_row f (λ S. nothing));
-      gaps = λ f. told asked_says asked.Refused (asked.Is (gaps_zero f (sizes_of f))) (λ r. refl) refl (open_row f (λ S. nothing));
-      list = λ f out. told listed_says listed.Refused (listed.Scans (length (list_of f))) (λ r. refl) refl (open_row f (λ S. room_row out (length (list_of f))));
-      find = λ f out. told listed_says listed.Refused (listed.Scans (length (find_of f (sizes_of f)))) (λ r. refl) refl (look-row f (room_row out (length (find_of f (sizes_of f)))));
-      entry = λ f s. told (λ (x : Found). taken_says x.answer) _ _ (λ r. refl) refl (slot_row f s nothing);
-      show = λ f s. told span_says span.Refused _ (λ r. refl) refl (slot_row f s nothing);
+      open_file = λ f. told opened_says Err (Ok (sizes_of f)) (λ r. refl) refl (open_row f (λ S. nothing));
+      gaps = λ f. told asked_says Err (Ok (gaps_zero f (sizes_of f))) (λ r. refl) refl (open_row f (λ S. nothing));
+      list = λ f out. told listed_says Err (Ok (length (list_of f))) (λ r. refl) refl (open_row f (λ S. room_row out (length (list_of f))));
+      find = λ f out. told listed_says Err (Ok (length (find_of f (sizes_of f)))) (λ r. refl) refl (look-row f (room_row out (length (find_of f (sizes_of f)))));
+      entry = λ f s. told (λ (x : Found). taken_says (taken_in x)) _ _ (λ r. refl) refl (slot_row f s nothing);
+      show = λ f s. told span_says Err _ (λ r. refl) refl (slot_row f s nothing);
       read = λ f s. read_told f s;
       class = λ s n. ruled-told s _ (λ a b. class-says s n a);
       rest = λ s. ruled-told s _ (λ a b. refl);
       save_scan = λ f slot scan about.
-          told (λ (b : Begun). taken_says b.answer) refused _ (λ r. refl) refl (change-row f (λ S. slot-asks (sizes_of f) slot (scan-row f scan S)));
+          told (λ (b : Begun). taken_says (taken_in b)) Err _ (λ r. refl) refl (change-row f (λ S. slot-asks (sizes_of f) slot (scan-row f scan S)));
       keep_scan = λ f scan about.
-          told (λ (b : Begun). taken_says b.answer) refused _ (λ r. refl) refl (change-row f (λ S. keep-asks f (scan-row f scan S)));
-      clear_slot = λ f slot. told (λ (b : Begun). taken_says b.answer) refused _ (λ r. refl) refl (change-row f (λ S. held-row f slot nothing));
+          told (λ (b : Begun). taken_says (taken_in b)) Err _ (λ r. refl) refl (change-row f (λ S. keep-asks f (scan-row f scan S)));
+      clear_slot = λ f slot. told (λ (b : Begun). taken_says (taken_in b)) Err _ (λ r. refl) refl (change-row f (λ S. held-row f slot nothing));
       step-job = λ f scan j. step-told f scan j (agrees f scan j) (has_left (sizes_of f) j) refl refl;
-      blank = λ f n l m. told taken_says taken.Refused taken.Accepted (λ r. refl) refl (blank-row f n l m);
-      convert = λ v f out. told taken_says taken.Refused taken.Accepted (λ r. refl) refl (convert-row v f out);
-      link_begin = λ len row. told taken_says taken.Refused taken.Accepted (λ r. refl) refl (lent_row row);
-      link_take = λ k p row. told taken_says taken.Refused taken.Accepted (λ r. refl) refl (lent_row row);
-      link_finish = λ k row. told opened_says opened.Refused (opened.Opens (sizes_of k.boot)) (λ r. refl) refl (finish-row k row);
+      blank = λ f n l m. told taken_says Err (Ok tt) (λ r. refl) refl (blank-row f n l m);
+      convert = λ v f out. told taken_says Err (Ok tt) (λ r. refl) refl (convert-row v f out);
+      link_begin = λ len row. told (λ (x : Linked). taken_says (taken_in x)) Err (Ok (fresh_link len)) (λ r. refl) refl (lent_row row);
+      link_take = λ k p row. told (λ (x : Linked). taken_says (taken_in x)) Err (Ok (took_link k p)) (λ r. refl) refl (lent_row row);
+      link_finish = λ k row. told opened_says Err (Ok (sizes_of k.boot)) (λ r. refl) refl (finish-row k row);
     }

@@ -1,4 +1,5 @@
 -- 2026-06: finds that rise and share no record are no more than the records they lie in.
+use Rattle.std.specs.Prelude.{Ok, Err}
 use Prim.Native.Nat.{ℕ, ◌+◌, ◌*◌, ◌≤◌}
 use mathlib.Core.Path.{◌≡◌, refl, ◌∙◌, ap}
 use mathlib.Core.List.{List, [], ◌∷◌, Memᴰ}
@@ -10,7 +11,6 @@ use Rattle.lent.specs.Checks.{check, clear, fired}
 use Rattle.lent.proofs.Checks.{clear-append, cons-clear, judge-clear}
 use Rattle.paper.specs.declared.sizes.Sizes.{Sizes}
 use Rattle.paper.specs.declared.refusal.Refusal.TheVariants.{TooSmall}
-use Rattle.paper.specs.declared.answer.Listed.TheVariants.{Scans, Refused}
 use Rattle.paper.specs.Sizes.{sizes_of, boot_checks}
 use Rattle.paper.specs.Index.{Booted}
 use Rattle.paper.specs.Find.{Find, find_of, find_checks, report_of}
@@ -27,7 +27,7 @@ counted last top (x ∷ xs) h o w =
     omega (arith, counted x.last top xs a o.2 (λ y m. w y (Memᴰ.tail m)), o.0, o.1)
 
 -- a search that is lent three elements a find is accepted
-done : (f out : List ℕ) (z : Sizes) → Booted f z → 3 * length (find_of f z) ≤ length out → report_of f out ≡ Scans (length (find_of f z))
+done : (f out : List ℕ) (z : Sizes) → Booted f z → 3 * length (find_of f z) ≤ length out → report_of f out ≡ Ok (length (find_of f z))
 unfolding report_of
 done f out z B h =
     let e : find_of f (sizes_of f) ≡ find_of f z = ap (find_of f) B.reads in
@@ -35,7 +35,7 @@ done f out z B h =
     let c : fired (find_checks f out) ≡ clear =
     clear-append (boot_checks f) (check small TooSmall ∷ []) (booted-clear B)
     ∙ cons-clear small TooSmall [] (le-ltb (length out) (3 * length (find_of f (sizes_of f))) (omega (arith, ap length e))) refl in
-    judge-clear Refused (find_checks f out) _ c ∙ ap (λ (xs : List Find). Scans (length xs)) e
+    judge-clear Err (find_checks f out) _ c ∙ ap (λ (xs : List Find). Ok (length xs)) e
 
 -- D finds at most, and 3 x D elements are always enough
 pub find-room : FindRoom

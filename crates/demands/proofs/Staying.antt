@@ -1,4 +1,5 @@
 -- Demand 3, of a slot that no change reached: entry, show and read answer as before, and give the same bytes.
+use Rattle.std.specs.Prelude.{Ok, Err}
 use Prim.Native.Nat.{ℕ, ◌+◌, ◌-◌, ◌≤◌}
 use mathlib.Core.Path.{◌≡◌, refl, sym, ◌∙◌, ap}
 use mathlib.Core.Bool.{Bool, true, false}
@@ -10,10 +11,9 @@ use Rattle.lent.specs.Number.{int16}
 use Rattle.lent.specs.Part.{part, Alike}
 use Rattle.lent.proofs.Parts.{part_at, part-part, alike-within}
 use Rattle.paper.specs.declared.sizes.Sizes.{Sizes}
-use Rattle.paper.specs.declared.answer.Taken.TheVariants as taken
 use Rattle.paper.specs.Sizes.{renewed, home_of}
 use Rattle.paper.specs.Index.{run_of, Full, shown_of, entry_at, Sound}
-use Rattle.paper.specs.Entry.{fields_of, magic_of, version_one, no_entry}
+use Rattle.paper.specs.Entry.{fields_of, magic_of, version_one}
 use Rattle.paper.specs.Look.{found_of, InIndex}
 use Rattle.paper.proofs.Sizing.{home-in}
 use Rattle.paper.proofs.Opening.{open-sound}
@@ -76,10 +76,9 @@ module _ (f g : List ℕ) (z : Sizes) (d u c : ℕ) (F : Sound f z) (G : Sound g
   still-so =
       record {
         entry =
-            both f g z d u c z.kind z.version F G s runs (λ r. record { answer = taken.Refused r; entry = no_entry })
-            (λ x. record { answer = taken.Accepted; entry = fields_of x.version g (home_of x s) }) (λ x. record { answer = taken.Accepted; entry = fields_of x.version f (home_of x s) })
+            both f g z d u c z.kind z.version F G s runs Err (λ x. Ok (fields_of x.version g (home_of x s))) (λ x. Ok (fields_of x.version f (home_of x s)))
             (λ i full.
-            ap (λ e. record { answer = taken.Accepted; entry = e })
+            ap Ok
             (fields-same f g z s F.booted.ranged.shape.m_low (home-in F.booted s i.low i.high) (home-in G.booted s i.low i.high)
             (ap (λ (x : Held). x.entry) (held i)) z.version));
         show = show-same f g z d u c z.kind z.version F G s runs shown one;

@@ -1,4 +1,5 @@
 -- Demand 3 holds.
+use Rattle.std.specs.Prelude.{Ok}
 use Prim.Native.Nat.{ℕ, ◌+◌, ◌-◌, ◌*◌, ◌≤◌, ◌<◌}
 use mathlib.Core.Path.{◌≡◌, refl, sym, ◌∙◌, ap, subst}
 use mathlib.Core.Bool.{true, false, not}
@@ -13,13 +14,12 @@ use Rattle.lent.proofs.Lists.{true≢false, true-also, lt-or-ge, those-same}
 use Rattle.lent.proofs.Parts.{length_part}
 use Rattle.paper.specs.declared.sizes.Sizes.{Sizes}
 use Rattle.paper.specs.declared.sizes.Run.{Run}
-use Rattle.paper.specs.declared.answer.Opened.TheVariants.{Opens}
 use Rattle.paper.specs.declared.job.Job.{Job}
 use Rattle.paper.specs.declared.job.Step.TheVariants.{Wrote}
 use Rattle.paper.specs.Sizes.{capacity_of, record_of, start_of}
 use Rattle.paper.specs.Index.{run_of, empty, Full, shown_of, slots_of, open_of, Lies, Sound}
 use Rattle.paper.specs.Look.{list_of}
-use Rattle.paper.specs.Store.{Write, total_of, writes_of}
+use Rattle.paper.specs.Store.{Write, total_of, writes_of, job_in}
 use Rattle.paper.specs.Step.{is_confirmed, no_write, step_answer}
 use Rattle.paper.proofs.Sizing.{less, times}
 use Rattle.paper.proofs.Opening.{facts-empty, facts-full, inside-all, slots-all, lies-end, sound-open, open-reads}
@@ -79,11 +79,11 @@ power-cut f z o os w =
 
 -- ---- the answers
 
-module _ (f : List ℕ) (z : Sizes) (o : open_of f ≡ Opens z) (op : Op) (w : Whole op) (t : takes f op ≡ true) where
+module _ (f : List ℕ) (z : Sizes) (o : open_of f ≡ Ok z) (op : Op) (w : Whole op) (t : takes f op ≡ true) where
   abbrev j : Job
-  j = (begin f op).job
+  j = job_in (begin f op)
 
-  B : Starts z f op (begin f op).job
+  B : Starts z f op (job_in (begin f op))
   B = starts f z o op w t
 
   answer-is : (i : ℕ) → answer_after f op i ≡ step_answer (file_at f (scan_of op) j i) (scan_of op) (job_at z f (scan_of op) j i)
@@ -96,11 +96,11 @@ module _ (f : List ℕ) (z : Sizes) (o : open_of f ≡ Opens z) (op : Op) (w : W
   abbrev y : ℕ → Sizes
   y i = sizes_at B.begins.ready B.begins.agreeing i
 
-  wrote : (i : ℕ) → i < writes_by f z op → answer_after f op i ≡ Wrote (get_or (writes_of (F i) (y i) j (scan_of op)) i no_write).record_no (i + 1)
+  wrote : (i : ℕ) → i < writes_by f z op → answer_after f op i ≡ Ok (Wrote (get_or (writes_of (F i) (y i) j (scan_of op)) i no_write).record_no (i + 1))
   wrote i h = answer-is i ∙ stage-wrote B.begins.ready B.begins.agreeing i (omega (arith, total-is B))
 
-  at : (i : ℕ) (x : Write) → i < writes_by f z op → get_or (writes_of (F i) (y i) j (scan_of op)) i no_write ≡ x → answer_after f op i ≡ Wrote x.record_no (i + 1)
-  at i x h e = wrote i h ∙ ap (λ (y : Write). Wrote y.record_no (i + 1)) e
+  at : (i : ℕ) (x : Write) → i < writes_by f z op → get_or (writes_of (F i) (y i) j (scan_of op)) i no_write ≡ x → answer_after f op i ≡ Ok (Wrote x.record_no (i + 1))
+  at i x h e = wrote i h ∙ ap (λ (y : Write). Ok (Wrote y.record_no (i + 1))) e
 
   confirms : (i : ℕ) → writes_by f z op ≤ i → answer_after f op i ≡ confirmed op (writes_by f z op)
   confirms i h =
@@ -116,15 +116,15 @@ module _ (f : List ℕ) (z : Sizes) (o : open_of f ≡ Opens z) (op : Op) (w : W
         boot = at (records_of z op) _ (omega arith) (writes-boot (F (records_of z op)) (y (records_of z op)) j (scan_of op) (records_of z op) (omega arith));
         entry =
             at (records_of z op + 1) _ (omega arith) (writes-entry (F (records_of z op + 1)) (y (records_of z op + 1)) j (scan_of op) (records_of z op + 1) (omega arith))
-            ∙ ap (Wrote (record_of z (slot_of f op))) e;
+            ∙ ap (λ (n : ℕ). Ok (Wrote (record_of z (slot_of f op)) n)) e;
         lower = λ t.
             at (records_of z op + 2) _ (omega (arith, B.change, change-lowers z j (B.lowers ∙ t)))
             (writes_lower (F (records_of z op + 2)) (y (records_of z op + 2)) j (scan_of op) (records_of z op + 2) (omega arith) (B.lowers ∙ t))
-            ∙ ap (Wrote 1) m;
+            ∙ ap (λ (n : ℕ). Ok (Wrote 1 n)) m;
         zeros = λ i h.
             let m : i < j.many = omega (arith, B.begins.ready.many_is) in
             at (changes_by f z op + i) _ (omega arith) (writes-zero (F (changes_by f z op + i)) (y (changes_by f z op + i)) j (scan_of op) (changes_by f z op + i) i (omega (arith, B.change)) m)
-            ∙ ap (λ (r : ℕ). Wrote (r + i) (changes_by f z op + i + 1)) B.begins.ready.old-is;
+            ∙ ap (λ (r : ℕ). Ok (Wrote (r + i) (changes_by f z op + i + 1))) B.begins.ready.old-is;
         confirms = λ more. confirms (writes_by f z op + more) (omega arith);
       }
 

@@ -1,4 +1,5 @@
 -- Demand 2, of what is listed and counted.
+use Rattle.std.specs.Prelude.{Ok, Err}
 use Prim.Native.Nat.{ℕ, ◌+◌, ◌-◌, ◌*◌, ◌≤◌, ◌<◌}
 use mathlib.Core.Path.{◌≡◌, refl, sym, ◌∙◌, ap, subst}
 use mathlib.Core.Bool.{Bool, true, false, cond, not}
@@ -9,12 +10,12 @@ use borrow.Author.Tests.{ltb-true}
 use lib.ListN.{length, take, drop, get_or, length-take}
 use Rattle.lent.specs.Write.{write, zeros}
 use Rattle.lent.specs.Lists.{Rising}
+use Rattle.lent.proofs.Checks.{err≢ok}
 use Rattle.lent.proofs.Lists.{lt-or-ge, those-rising}
 use Rattle.lent.proofs.Writes.{length-zeros, length-write, write-before, write-after}
 use Rattle.paper.specs.declared.sizes.Sizes.{Sizes}
 use Rattle.paper.specs.declared.refusal.Refusal.TheVariants.{Disagrees, Differs}
-use Rattle.paper.specs.declared.answer.Opened.{Opened}
-use Rattle.paper.specs.declared.answer.Opened.TheVariants.{Opens, Refused}
+use Rattle.paper.specs.Answers.{Opened}
 use Rattle.paper.specs.declared.job.Job.{Job}
 use Rattle.paper.specs.declared.job.Step.TheVariants as step
 use Rattle.paper.specs.Sizes.{sizes_of, boot_bytes, start_of, home_of}
@@ -51,20 +52,20 @@ list-exactly f z o =
 -- ---- a step that wrote
 
 -- no confirming step answers that it wrote
-confirm-never : (f scan : List ℕ) (j : Job) (o : Opened) (r count : ℕ) → confirm_of f scan j o ≡ step.Wrote r count → ⊥
-confirm-never f scan j (Refused q) r count e = let z : ◌≡◌ {A = ℕ} 0 1 = cc in omega arith
-confirm-never f scan j (Opens z) r count e = go (stands f scan j z) j.saves e
+confirm-never : (f scan : List ℕ) (j : Job) (o : Opened) (r count : ℕ) → confirm_of f scan j o ≡ Ok (step.Wrote r count) → ⊥
+confirm-never f scan j (Err q) r count e = err≢ok e
+confirm-never f scan j (Ok z) r count e = go (stands f scan j z) j.saves e
   where
-    go : (b s : Bool) → cond b (cond s (step.Saved 0 j.written) (step.Cleared 0 j.written)) (step.Refused Differs) ≡ step.Wrote r count → ⊥
+    go : (b s : Bool) → cond b (cond s (Ok (step.Saved 0 j.written)) (Ok (step.Cleared 0 j.written))) (Err Differs) ≡ Ok (step.Wrote r count) → ⊥
     go true true e = let z : ◌≡◌ {A = ℕ} 0 1 = cc in omega arith
     go true false e = let z : ◌≡◌ {A = ℕ} 0 1 = cc in omega arith
-    go false s e = let z : ◌≡◌ {A = ℕ} 0 1 = cc in omega arith
+    go false s e = err≢ok e
 
 next : (f scan : List ℕ) (j : Job) (r count : ℕ) (a left : Bool) → agrees f scan j ≡ a → has_left (sizes_of f) j ≡ left
-    → cond a (cond left (step.Wrote (write_at f (sizes_of f) scan j).record_no (j.written + 1)) (confirm_of f scan j (open_of f))) (step.Refused Disagrees)
-    ≡ step.Wrote r count
+    → cond a (cond left (Ok (step.Wrote (write_at f (sizes_of f) scan j).record_no (j.written + 1))) (confirm_of f scan j (open_of f))) (Err Disagrees)
+    ≡ Ok (step.Wrote r count)
     → Next f scan j r count
-next f scan j r count false left p q e = let z : ◌≡◌ {A = ℕ} 0 1 = cc in absurd (omega arith)
+next f scan j r count false left p q e = absurd (err≢ok e)
 next f scan j r count true false p q e = absurd (confirm-never f scan j (open_of f) r count e)
 next f scan j r count true true p q e =
     let h : j.written < total_of (sizes_of f) j = ltb-true j.written (total_of (sizes_of f) j) q in

@@ -1,4 +1,5 @@
 -- Demand 2, of what is confirmed: it stands in the file, and is read back.
+use Rattle.std.specs.Prelude.{Ok}
 use Prim.Native.Nat.{ℕ, ◌+◌, ◌*◌}
 use mathlib.Core.Path.{◌≡◌, refl, sym, ◌∙◌, ap, subst}
 use mathlib.Core.Bool.{true, false}
@@ -8,15 +9,13 @@ use lib.ListN.{length}
 use Rattle.lent.specs.Part.{part}
 use Rattle.paper.specs.declared.sizes.Sizes.{Sizes}
 use Rattle.paper.specs.declared.sizes.Run.{Run}
-use Rattle.paper.specs.declared.answer.Opened.TheVariants.{Opens}
-use Rattle.paper.specs.declared.answer.Ruled.TheVariants.{Keeps}
 use Rattle.paper.specs.declared.job.Job.{Job}
-use Rattle.paper.specs.declared.job.Begun.{Begun}
+use Rattle.paper.specs.Answers.{Begun}
 use Rattle.paper.specs.declared.job.Step.TheVariants.{Saved}
 use Rattle.paper.specs.Index.{run_of, Full, slots_of, open_of, Sound}
 use Rattle.paper.specs.Scan.{headlen, datalen, ruled_of}
 use Rattle.paper.specs.Look.{list_of, InIndex}
-use Rattle.paper.specs.Store.{records_for, run_from, save_of, keep_of}
+use Rattle.paper.specs.Store.{records_for, run_from, save_of, keep_of, job_in}
 use Rattle.paper.proofs.Opening.{open-sound, sound-open, open-reads, full-holds, holds-slots, slots-holds}
 use Rattle.paper.proofs.Encoding.{entry-about}
 use Rattle.paper.proofs.Confirming.{ended, saved-shown, saved-entry, saved-run, cleared-shown, cleared-entry, cleared-run}
@@ -33,10 +32,10 @@ pub opens-exactly : OpensExactly
 opens-exactly f z = (open-sound, sound-open)
 
 -- a slot of the list, in the sizes that the file opens with
-listed_at : (f : List ℕ) (z : Sizes) → open_of f ≡ Opens z → (s : ℕ) → Memᴰ s (slots_of z (run_of f z)) → Memᴰ s (list_of f)
+listed_at : (f : List ℕ) (z : Sizes) → open_of f ≡ Ok z → (s : ℕ) → Memᴰ s (slots_of z (run_of f z)) → Memᴰ s (list_of f)
 listed_at f z o s m = subst (λ (y : Sizes). Memᴰ s (slots_of y (run_of f y))) (sym (open-reads f o)) m
 
-at_listed : (f : List ℕ) (z : Sizes) → open_of f ≡ Opens z → (s : ℕ) → Memᴰ s (list_of f) → Memᴰ s (slots_of z (run_of f z))
+at_listed : (f : List ℕ) (z : Sizes) → open_of f ≡ Ok z → (s : ℕ) → Memᴰ s (list_of f) → Memᴰ s (slots_of z (run_of f z))
 at_listed f z o s m = subst (λ (y : Sizes). Memᴰ s (slots_of y (run_of f y))) (open-reads f o) m
 
 pub saved-shows : SavedShows
@@ -75,7 +74,7 @@ cleared-empty f scan j r count e =
 
 -- ---- what is shown is read
 
-shown-reads : {f : List ℕ} {slot first : ℕ} {scan about : List ℕ} (head rest : ℕ) (x : Shows f slot first scan about) → x.z.version ≡ 1 → ruled_of scan true ≡ Keeps head rest
+shown-reads : {f : List ℕ} {slot first : ℕ} {scan about : List ℕ} (head rest : ℕ) (x : Shows f slot first scan about) → x.z.version ≡ 1 → ruled_of scan true ≡ Ok (head, rest)
     → length about ≡ 54 → ReadsBack f slot scan about
 shown-reads {f} {slot} {first} {scan} {about} head rest x v k l =
     let z : Sizes = x.z in
@@ -97,20 +96,20 @@ saved-reads f scan j r count head rest e k l = shown-reads head rest (saved-show
 
 -- what a save or a keep was accepted with
 record Given (f : List ℕ) (op : Op) : Type 0 where
-  keeps : ruled_of (scan_of op) true ≡ Keeps (headlen (scan_of op)) (datalen (scan_of op))
-  about : (begin f op).job.about ≡ about_of op
+  keeps : ruled_of (scan_of op) true ≡ Ok (headlen (scan_of op), datalen (scan_of op))
+  about : (job_in (begin f op)).about ≡ about_of op
   long : length (about_of op) ≡ 54
 
 given : (f : List ℕ) (op : Op) → Saves op → Whole op → takes f op ≡ true → Given f op
 given f (save slot scan about) s w e =
-    let t = save-taken f slot scan about (accepts (save_of f slot scan about).answer e) in
-    record { keeps = t.placed.keeps; about = ap (λ (b : Begun). b.job.about) (taken-save f slot scan about t); long = w }
+    let t = save-taken f slot scan about (accepts (save_of f slot scan about) e) in
+    record { keeps = t.placed.keeps; about = ap (λ (b : Begun). (job_in b).about) (taken-save f slot scan about t); long = w }
 given f (keep scan about) s w e =
-    let t = keep_taken f scan about (accepts (keep_of f scan about).answer e) in
-    record { keeps = t.placed.keeps; about = ap (λ (b : Begun). b.job.about) (taken-keep f scan about t); long = w }
+    let t = keep_taken f scan about (accepts (keep_of f scan about) e) in
+    record { keeps = t.placed.keeps; about = ap (λ (b : Begun). (job_in b).about) (taken-keep f scan about t); long = w }
 given f (clear slot) s w e = absurd s
 
-saves-step : (op : Op) → Saves op → (c : ℕ) → confirmed op c ≡ Saved 0 c
+saves-step : (op : Op) → Saves op → (c : ℕ) → confirmed op c ≡ Ok (Saved 0 c)
 saves-step (save slot scan about) s c = refl
 saves-step (keep scan about) s c = refl
 saves-step (clear slot) s c = absurd s
@@ -120,7 +119,7 @@ run-reads f z o op s w t more =
     let g = given f op s w t in
     let i : ℕ = writes_by f z op + more in
     let st : State = state_after f op i in
-    let j : Job = (begin f op).job in
+    let j : Job = (job_in (begin f op)) in
     let e : st.job ≡ job_at z f (scan_of op) j i = ap (λ (x : State). x.job) (steps-are (starts f z o op w t).begins i) in
     let a : st.job.about ≡ about_of op = ap (λ (k : Job). k.about) e ∙ g.about in
     let back : ReadsBack st.file st.job.slot (scan_of op) st.job.about =

@@ -1,4 +1,5 @@
 -- The used number: exact after what was confirmed, never too low after a cut.
+use Rattle.std.specs.Prelude.{Ok}
 use Prim.Native.Nat.{ℕ, ◌+◌, ◌≤◌}
 use mathlib.Core.Path.{◌≡◌, refl, sym, ◌∙◌, ap, subst}
 use mathlib.Core.Bool.{Bool, true, false, cond}
@@ -7,12 +8,11 @@ use native.Mathlib.Omega.{arith}
 use borrow.Author.Tests.{eq-eqb, ne_eqb}
 use lib.Dec.{eqb}
 use Rattle.paper.specs.declared.sizes.Sizes.{Sizes}
-use Rattle.paper.specs.declared.answer.Opened.TheVariants.{Opens}
-use Rattle.paper.specs.declared.job.Begun.{Begun}
+use Rattle.paper.specs.Answers.{Begun}
 use Rattle.paper.specs.declared.job.Step.TheVariants.{Cleared}
 use Rattle.paper.specs.Sizes.{renewed, capacity_of}
 use Rattle.paper.specs.Index.{run_of, Full, open_of}
-use Rattle.paper.specs.Store.{highest, many_of, clear_of}
+use Rattle.paper.specs.Store.{highest, many_of, clear_of, job_in}
 use Rattle.paper.specs.Step.{is_confirmed}
 use Rattle.paper.proofs.Opening.{sound-open, full-holds, open-reads}
 use Rattle.paper.proofs.Used.{highest-le, highest-full, highest-above, full-highest, highest-is}
@@ -38,7 +38,7 @@ after_more f [] o = refl
 after_more f (x ∷ os) o = after_more (run f x.op x.cut) os o
 
 -- one operation, confirmed
-exact_one : (f : List ℕ) (z : Sizes) → open_of f ≡ Opens z → (op : Op) → Whole op → takes f op ≡ true → (i : ℕ) → is_confirmed (answer_after f op i) ≡ true
+exact_one : (f : List ℕ) (z : Sizes) → open_of f ≡ Ok z → (op : Op) → Whole op → takes f op ≡ true → (i : ℕ) → is_confirmed (answer_after f op i) ≡ true
     → Exact (run f op (stepped i))
 unfolding run
 exact_one f z o op w t i c =
@@ -46,7 +46,7 @@ exact_one f z o op w t i c =
     let e : (state_after f op i).file ≡ _ = ap (λ (s : State). s.file) (steps-are B.begins i) in
     let S = last-sound B.begins.ready i (omega (arith, B.change, not_yet f z o op w t i c)) in
     subst Exact (sym (ap (λ (b : Bool). cond b (state_after f op i).file f) t ∙ e))
-    (let p = topmost (file_at f (scan_of op) (begin f op).job i) z in
+    (let p = topmost (file_at f (scan_of op) (job_in (begin f op)) i) z in
     record { z = _; opens = sound-open S; topmost = record { slotted = p.slotted; full = p.full; above = p.above } })
 
 pub used-exact : UsedExact
@@ -62,9 +62,9 @@ never-lower f z o os w =
 
 -- ---- the steps of a clear
 
-module _ (f : List ℕ) (z : Sizes) (o : open_of f ≡ Opens z) (slot : ℕ) (t : takes f (clear slot) ≡ true) where
+module _ (f : List ℕ) (z : Sizes) (o : open_of f ≡ Ok z) (slot : ℕ) (t : takes f (clear slot) ≡ true) where
   taken : ClearTaken f slot
-  taken = clear-is-taken f slot (accepts (clear_of f slot).answer t)
+  taken = clear-is-taken f slot (accepts (clear_of f slot) t)
 
   full : Full (run_of f z slot)
   full = subst (λ (y : Sizes). Full (run_of f y slot)) (open-reads f o) taken.full
@@ -76,16 +76,16 @@ module _ (f : List ℕ) (z : Sizes) (o : open_of f ≡ Opens z) (slot : ℕ) (t 
   is-highest n = eq-eqb slot (highest f z) (sym (highest-is f z slot slotted (λ h. full) n))
 
   slot_is : slot_of f (clear slot) ≡ slot
-  slot_is = ap (λ (b : Begun). b.job.slot) (taken-is-clear f slot taken)
+  slot_is = ap (λ (b : Begun). (job_in b).slot) (taken-is-clear f slot taken)
 
-  confirmed-at : (b : Bool) → eqb slot (highest f z) ≡ b → (i : ℕ) → i ≡ 2 + cond b 1 0 + many_of (run_of f z slot) → answer_after f (clear slot) i ≡ Cleared 0 i
+  confirmed-at : (b : Bool) → eqb slot (highest f z) ≡ b → (i : ℕ) → i ≡ 2 + cond b 1 0 + many_of (run_of f z slot) → answer_after f (clear slot) i ≡ Ok (Cleared 0 i)
   confirmed-at b e i h =
       let a = (confirms-each f z o (clear slot) tt t).confirms 0 in
       let q = ap (λ (s : ℕ). many_of (run_of f z s)) slot_is in
       let c = ap (λ (x : Bool). cond {A = ℕ} x 1 0) e in
       let k : writes_by f z (clear slot) ≡ i = omega arith in
       let l : writes_by f z (clear slot) + 0 ≡ i = omega arith in
-      ap (answer_after f (clear slot)) (sym l) ∙ a ∙ ap (Cleared 0) k
+      ap (answer_after f (clear slot)) (sym l) ∙ a ∙ ap (λ (n : ℕ). Ok (Cleared 0 n)) k
 
   clear-steps : ClearSteps f z slot
   clear-steps =

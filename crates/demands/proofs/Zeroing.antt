@@ -1,4 +1,5 @@
 -- The old run is zeros once a job is confirmed, and after confirmed jobs alone the gaps are what they were: all zeros.
+use Rattle.std.specs.Prelude.{Ok}
 use Prim.Native.Nat.{ℕ, zero, suc, ◌+◌, ◌-◌, ◌*◌, ◌≤◌, ◌<◌}
 use mathlib.Core.Path.{◌≡◌, refl, sym, ◌∙◌, ap, subst}
 use mathlib.Core.Bool.{Bool, true, false, cond}
@@ -8,17 +9,16 @@ use native.Mathlib.Omega.{arith}
 use native.Mathlib.Nat.{add-mul, lt_of_mul-lt-mul_right}
 use lib.ListN.{length, get_or}
 use Rattle.lent.specs.Write.{zeros}
+use Rattle.lent.proofs.Checks.{ok-same}
 use Rattle.lent.proofs.Lists.{lt-or-ge, same_or}
 use Rattle.lent.proofs.Parts.{part_at, length_part, part_same}
 use Rattle.lent.proofs.Writes.{get_or-zeros, all-zeros}
 use Rattle.paper.specs.declared.sizes.Sizes.{Sizes}
 use Rattle.paper.specs.declared.sizes.Run.{Run}
-use Rattle.paper.specs.declared.answer.Opened.TheVariants.{Opens}
-use Rattle.paper.specs.declared.answer.Asked.TheVariants.{Is}
 use Rattle.paper.specs.declared.job.Job.{Job}
 use Rattle.paper.specs.Sizes.{renewed, capacity_of, start_of, home_of}
 use Rattle.paper.specs.Index.{run_of, open_of, Sound}
-use Rattle.paper.specs.Store.{highest, count_of, records_for, entry_after, sizes_after, counter_after, total_of}
+use Rattle.paper.specs.Store.{highest, count_of, records_for, entry_after, sizes_after, counter_after, total_of, job_in}
 use Rattle.paper.specs.Step.{is_confirmed, step_answer, rows_at}
 use Rattle.paper.specs.Gaps.{record_at, InGap, GapsZero}
 use Rattle.paper.proofs.Sizing.{less, times, home-is, home-end, head-long}
@@ -43,14 +43,11 @@ pub gaps-exactly : GapsExactly
 gaps-exactly f z o =
     let e = gaps-is f z o in
     record {
-      yes_so = λ h. gaps-true f z (said (sym e ∙ h));
-      so_yes = λ h. e ∙ ap Is (true-gaps f z h);
-      no_so = λ h. gaps-false f z (said (sym e ∙ h));
-      so_no = λ h. e ∙ ap Is (false-gaps f z h.at h.left);
+      yes_so = λ h. gaps-true f z (ok-same (sym e ∙ h));
+      so_yes = λ h. e ∙ ap Ok (true-gaps f z h);
+      no_so = λ h. gaps-false f z (ok-same (sym e ∙ h));
+      so_no = λ h. e ∙ ap Ok (false-gaps f z h.at h.left);
     }
-  where
-    said : {a b : Bool} → Is a ≡ Is b → a ≡ b
-    said {a} {b} e = cc
 
 -- ---- records that are zeros
 
@@ -201,8 +198,8 @@ module _ {z : Sizes} {f : List ℕ} {op : Op} {j : Job} (B : Starts z f op j) wh
 
 -- ---- every operation, and a history of them
 
-file-is : (f : List ℕ) (z : Sizes) (o : open_of f ≡ Opens z) (op : Op) (w : Whole op) (t : takes f op ≡ true) (i : ℕ)
-    → (state_after f op i).file ≡ file_at f (scan_of op) (begin f op).job i
+file-is : (f : List ℕ) (z : Sizes) (o : open_of f ≡ Ok z) (op : Op) (w : Whole op) (t : takes f op ≡ true) (i : ℕ)
+    → (state_after f op i).file ≡ file_at f (scan_of op) (job_in (begin f op)) i
 file-is f z o op w t i = ap (λ (s : State). s.file) (steps-are (starts f z o op w t).begins i)
 
 pub none-readable : NoneReadable
@@ -213,10 +210,10 @@ none-readable f z o op w t i c r r₁ lo hi =
 -- the file opens, and its gaps are zeros
 record Clean (g : List ℕ) : Type 0 where
   z : Sizes
-  opens : open_of g ≡ Opens z
+  opens : open_of g ≡ Ok z
   gaps : GapsZero g z
 
-clean-one : (f : List ℕ) (z : Sizes) → open_of f ≡ Opens z → GapsZero f z → (op : Op) → Whole op → (cut : Cut)
+clean-one : (f : List ℕ) (z : Sizes) → open_of f ≡ Ok z → GapsZero f z → (op : Op) → Whole op → (cut : Cut)
     → (takes f op ≡ true → is_confirmed (answer_after f op (steps_of cut)) ≡ true) → Clean (run f op cut)
 unfolding run
 clean-one f z o G op w cut c = go (takes f op) refl
@@ -224,12 +221,12 @@ clean-one f z o G op w cut c = go (takes f op) refl
     go : (t : Bool) → takes f op ≡ t → Clean (cond t (state_after f op (steps_of cut)).file f)
     go true t =
         let B = starts f z o op w t in
-        let d : total_of z (begin f op).job ≤ steps_of cut = omega (arith, total-is B, not_yet f z o op w t (steps_of cut) (c t)) in
+        let d : total_of z (job_in (begin f op)) ≤ steps_of cut = omega (arith, total-is B, not_yet f z o op w t (steps_of cut) (c t)) in
         subst Clean (sym (file-is f z o op w t (steps_of cut)))
         (record { z = _; opens = sound-open (S B (steps_of cut) d); gaps = zeros-again B (steps_of cut) d G })
     go false t = record { z = z; opens = o; gaps = G }
 
-clean_all : (os : List Done) (f : List ℕ) (z : Sizes) → open_of f ≡ Opens z → GapsZero f z → Wholes os → Finished f os → Clean (after f os)
+clean_all : (os : List Done) (f : List ℕ) (z : Sizes) → open_of f ≡ Ok z → GapsZero f z → Wholes os → Finished f os → Clean (after f os)
 clean_all [] f z o G w h = record { z = z; opens = o; gaps = G }
 clean_all (x ∷ os) f z o G w h =
     let one = clean-one f z o G x.op w.0 x.cut h.0 in

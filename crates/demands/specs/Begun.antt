@@ -1,18 +1,17 @@
 -- Demand 2, of a beginning: the job that an accepted save, keep or clear hands back, and what its record 1 says, in plain facts.
-use Rattle.std.specs.Prelude.{ℕ, ◌+◌, ◌-◌, ◌%◌, ◌≤◌, ◌<◌, max, ◌≡◌, true, false, not, cond, List, length, take, replicate}
+use Rattle.std.specs.Prelude.{ℕ, ◌+◌, ◌-◌, ◌%◌, ◌≤◌, ◌<◌, max, ◌≡◌, true, false, not, cond, List, length, take, replicate, Ok}
 use Rattle.lent.specs.Greatest.{greatest}
 use Rattle.paper.specs.declared.sizes.Sizes.{Sizes}
 use Rattle.paper.specs.declared.sizes.Run.{Run}
-use Rattle.paper.specs.declared.answer.Opened.TheVariants.{Opens}
-use Rattle.paper.specs.declared.answer.Taken.TheVariants.{Accepted}
 use Rattle.paper.specs.declared.job.Job.{Job}
 use Rattle.paper.specs.Sizes.{sizes_of, renewed, capacity_of}
 use Rattle.paper.specs.Index.{run_of, empty, Full, open_of}
 use Rattle.paper.specs.Look.{InIndex}
-use Rattle.paper.specs.Store.{records_for, highest, save_of, keep_of, clear_of}
+use Rattle.paper.specs.Store.{records_for, highest, save_of, keep_of, clear_of, job_in}
 use Rattle.demands.specs.Causes.{FreeRun}
 use Rattle.demands.specs.History.{Op, save, keep, clear, Whole, begin, records_of, lowers_by, changes_by, slot_of, takes, state_after}
 use Rattle.demands.specs.Used.{NoneAbove}
+use Rattle.paper.specs.Answers.{taken_in}
 
 -- ---- the job
 
@@ -56,18 +55,18 @@ pub record ClearJob (f : List ℕ) (slot : ℕ) (j : Job) : Type 0 where
   pub carries : Carries (run_of f (sizes_of f) slot) j
 
 pub record Begins : Type 0 where
-  pub save-job : (f : List ℕ) (slot : ℕ) (scan about : List ℕ) → (save_of f slot scan about).answer ≡ Accepted
-      → SaveJob f slot scan about (save_of f slot scan about).job
-  pub keep_job : (f scan about : List ℕ) → (keep_of f scan about).answer ≡ Accepted
-      → SaveJob f (keep_of f scan about).job.slot scan about (keep_of f scan about).job × LowestEmpty f (keep_of f scan about).job.slot
-  pub clear-job : (f : List ℕ) (slot : ℕ) → (clear_of f slot).answer ≡ Accepted → ClearJob f slot (clear_of f slot).job
+  pub save-job : (f : List ℕ) (slot : ℕ) (scan about : List ℕ) → taken_in (save_of f slot scan about) ≡ Ok tt
+      → SaveJob f slot scan about (job_in (save_of f slot scan about))
+  pub keep_job : (f scan about : List ℕ) → taken_in (keep_of f scan about) ≡ Ok tt
+      → SaveJob f (job_in (keep_of f scan about)).slot scan about (job_in (keep_of f scan about)) × LowestEmpty f (job_in (keep_of f scan about)).slot
+  pub clear-job : (f : List ℕ) (slot : ℕ) → taken_in (clear_of f slot) ≡ Ok tt → ClearJob f slot (job_in (clear_of f slot))
 
 -- ---- record 1
 
 -- "D = max(D, r+k-1-N)"; a clear leaves D
 abbrev pub data_by : List ℕ → Sizes → Op → ℕ
-data_by f z (save slot scan about) = max z.d ((begin f (save slot scan about)).job.first + records_for z (length scan) - 1 - z.n)
-data_by f z (keep scan about) = max z.d ((begin f (keep scan about)).job.first + records_for z (length scan) - 1 - z.n)
+data_by f z (save slot scan about) = max z.d ((job_in (begin f (save slot scan about))).first + records_for z (length scan) - 1 - z.n)
+data_by f z (keep scan about) = max z.d ((job_in (begin f (keep scan about))).first + records_for z (length scan) - 1 - z.n)
 data_by f z (clear slot) = z.d
 
 -- "and the counter one higher"; 02, 2026-04: "U to the highest slot with a scan, the one being saved or cleared counted"
@@ -88,4 +87,4 @@ pub record Grows (f : List ℕ) (z : Sizes) (op : Op) : Type 0 where
   pub ended : (i : ℕ) → changes_by f z op ≤ i → sizes_of (state_after f op i).file ≡ cond (lowers_by f z op) (lowered f z op) (grown f z op)
 
 abbrev pub RecordOne : Type 0
-RecordOne = (f : List ℕ) (z : Sizes) → open_of f ≡ Opens z → (op : Op) → Whole op → takes f op ≡ true → Grows f z op
+RecordOne = (f : List ℕ) (z : Sizes) → open_of f ≡ Ok z → (op : Op) → Whole op → takes f op ≡ true → Grows f z op

@@ -1,20 +1,20 @@
 -- Demand 2, of the entry as the call gives it: its fields are the entry's bytes, its kind is what the mode says, and after a save they are those given.
-use Rattle.std.specs.Prelude.{ℕ, ◌+◌, ◌-◌, ◌%◌, ◌≤◌, ◌<◌, ◌≡◌, List, [], ◌++◌, length, get_or, ℤ, pos, negsuc}
+use Rattle.std.specs.Prelude.{ℕ, ◌+◌, ◌-◌, ◌%◌, ◌≤◌, ◌<◌, ◌≡◌, List, [], ◌++◌, length, get_or, ℤ, pos, negsuc, Ok}
 use Rattle.std.specs.Float.{binary32, binary64}
 use Rattle.std.specs.Float.Ieee.{of_bits}
 use Rattle.lent.specs.Number.{big, bytes, be16}
 use Rattle.lent.specs.Part.{part}
 use Rattle.paper.specs.declared.sizes.Sizes.{Sizes}
-use Rattle.paper.specs.declared.answer.Taken.TheVariants.{Accepted}
 use Rattle.paper.specs.declared.entry.Entry.{Entry}
 use Rattle.paper.specs.declared.job.Job.{Job}
 use Rattle.paper.specs.declared.job.Step.TheVariants.{Saved}
 use Rattle.paper.specs.Refusals.{KindSays, kind_says}
 use Rattle.paper.specs.Sizes.{sizes_of}
-use Rattle.paper.specs.Look.{found_of}
+use Rattle.paper.specs.Look.{found_of, fields_in}
 use Rattle.paper.specs.Store.{records_for}
 use Rattle.paper.specs.Step.{step_answer}
 use Rattle.demands.specs.Reads.{entry_byte}
+use Rattle.paper.specs.Answers.{taken_in}
 
 -- what is lent is bytes
 abbrev pub Bytes : List ℕ → Type 0
@@ -87,7 +87,7 @@ pub record EntryIs (f : List ℕ) (z : Sizes) (s : ℕ) (e : Entry) : Type 0 whe
   pub kind : KindIs (be16 f (entry_byte z s + 56)) e
 
 abbrev pub EntryFields : Type 0
-EntryFields = (f : List ℕ) (s : ℕ) → Bytes f → (found_of f s).answer ≡ Accepted → EntryIs f (sizes_of f) s (found_of f s).entry
+EntryFields = (f : List ℕ) (s : ℕ) → Bytes f → taken_in (found_of f s) ≡ Ok tt → EntryIs f (sizes_of f) s (fields_in (found_of f s))
 
 -- of an old file "first record, last record .. as 16-bit numbers": those numbers themselves, and none of them is a negative one
 pub record OldRunIs (f : List ℕ) (z : Sizes) (s : ℕ) (e : Entry) : Type 0 where
@@ -96,16 +96,16 @@ pub record OldRunIs (f : List ℕ) (z : Sizes) (s : ℕ) (e : Entry) : Type 0 wh
   pub old_small : z.version ≡ 0 → (e.first < 32768) × (e.last < 32768)
 
 abbrev pub OldRuns : Type 0
-OldRuns = (f : List ℕ) (s : ℕ) → (found_of f s).answer ≡ Accepted → OldRunIs f (sizes_of f) s (found_of f s).entry
+OldRuns = (f : List ℕ) (s : ℕ) → taken_in (found_of f s) ≡ Ok tt → OldRunIs f (sizes_of f) s (fields_in (found_of f s))
 
 -- what the call gives of a slot that was saved: the entry's bytes 8 to 61 as given, and the records of the job
 pub record SavedEntry (f scan : List ℕ) (j : Job) : Type 0 where
-  pub taken : (found_of f j.slot).answer ≡ Accepted
-  pub about : part 8 62 (field_bytes (found_of f j.slot).entry) ≡ j.about
-  pub first : (found_of f j.slot).entry.first ≡ j.first
-  pub last : (found_of f j.slot).entry.last ≡ j.first + records_for (sizes_of f) (length scan) - 1
+  pub taken : taken_in (found_of f j.slot) ≡ Ok tt
+  pub about : part 8 62 (field_bytes (fields_in (found_of f j.slot))) ≡ j.about
+  pub first : (fields_in (found_of f j.slot)).first ≡ j.first
+  pub last : (fields_in (found_of f j.slot)).last ≡ j.first + records_for (sizes_of f) (length scan) - 1
 
 -- A step that answers Saved: the entry call on the very file lent to it gives what the job was given.
 abbrev pub SavedGives : Type 0
 SavedGives =
-    (f scan : List ℕ) (j : Job) (r count : ℕ) → Bytes f → step_answer f scan j ≡ Saved r count → length j.about ≡ 54 → SavedEntry f scan j
+    (f scan : List ℕ) (j : Job) (r count : ℕ) → Bytes f → step_answer f scan j ≡ Ok (Saved r count) → length j.about ≡ 54 → SavedEntry f scan j

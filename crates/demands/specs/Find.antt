@@ -1,10 +1,8 @@
 -- 02, 2026-06: "Finding scans when the index is lost". What is found, for every file with a good bootstrap; and that it is what the index lists, where nothing else is left.
-use Rattle.std.specs.Prelude.{ℕ, ◌+◌, ◌*◌, ◌≤◌, ◌<◌, ◌≡◌, false, length, get_or}
+use Rattle.std.specs.Prelude.{ℕ, ◌+◌, ◌*◌, ◌≤◌, ◌<◌, ◌≡◌, false, length, get_or, Ok}
 use mathlib.Core.List.{List, [], ◌∷◌, map, Memᴰ}
 use Rattle.lent.specs.Number.{be64}
 use Rattle.paper.specs.declared.sizes.Sizes.{Sizes}
-use Rattle.paper.specs.declared.answer.Opened.TheVariants.{Opens}
-use Rattle.paper.specs.declared.answer.Listed.TheVariants.{Scans}
 use Rattle.paper.specs.Sizes.{sizes_of, start_of}
 use Rattle.paper.specs.Index.{run_of, shown_of, boot_of, open_of}
 use Rattle.paper.specs.Scan.{headlen, datalen, Rule}
@@ -43,7 +41,7 @@ pub record Finds (f : List ℕ) (z : Sizes) : Type 0 where
 
 -- For every file with a good bootstrap, whatever its index holds.
 abbrev pub FindsRight : Type 0
-FindsRight = (f : List ℕ) (z : Sizes) → boot_of f ≡ Opens z → Finds f z
+FindsRight = (f : List ℕ) (z : Sizes) → boot_of f ≡ Ok z → Finds f z
 
 -- ---- and what is listed
 
@@ -69,7 +67,7 @@ pub record Listed (f : List ℕ) (z : Sizes) : Type 0 where
 
 -- "On a file that opens, whose free records are all zeros and whose scans all obey the rules and fill exactly their records"
 abbrev pub FindsListed : Type 0
-FindsListed = (f : List ℕ) (z : Sizes) → open_of f ≡ Opens z → GapsZero f z → AllFill f z → Listed f z
+FindsListed = (f : List ℕ) (z : Sizes) → open_of f ≡ Ok z → GapsZero f z → AllFill f z → Listed f z
 
 -- ---- what is reported
 
@@ -83,4 +81,4 @@ pub record Reported (f out : List ℕ) (n : ℕ) (after : List ℕ) : Type 0 whe
   pub as_long : length after ≡ length out
 
 abbrev pub FindLines : Type 0
-FindLines = (f out : List ℕ) (n : ℕ) → report_of f out ≡ Scans n → Reported f out n (report_out f out)
+FindLines = (f out : List ℕ) (n : ℕ) → report_of f out ≡ Ok n → Reported f out n (report_out f out)

@@ -1,9 +1,7 @@
 -- 02, 2026-05: "Old scans stay readable in the gaps". What a confirmed job leaves of the scan that it replaced or cleared, and the question of the gaps.
-use Rattle.std.specs.Prelude.{ℕ, ◌+◌, ◌≤◌, ◌<◌, ◌≡◌, true, false, List, [], ◌∷◌}
+use Rattle.std.specs.Prelude.{ℕ, ◌+◌, ◌≤◌, ◌<◌, ◌≡◌, true, false, List, [], ◌∷◌, Ok}
 use Rattle.lent.specs.Write.{zeros}
 use Rattle.paper.specs.declared.sizes.Sizes.{Sizes}
-use Rattle.paper.specs.declared.answer.Opened.TheVariants.{Opens}
-use Rattle.paper.specs.declared.answer.Asked.TheVariants.{Is}
 use Rattle.paper.specs.declared.job.Job.{Job}
 use Rattle.paper.specs.Index.{open_of}
 use Rattle.paper.specs.Step.{is_confirmed, step_answer}
@@ -15,7 +13,7 @@ use Rattle.demands.specs.History.{Op, Whole, takes, old_by, state_after, answer_
 -- the file opens, and each record of the job's old run is zeros
 pub record Erased (f : List ℕ) (j : Job) : Type 0 where
   pub z : Sizes
-  pub opens : open_of f ≡ Opens z
+  pub opens : open_of f ≡ Ok z
   pub gone : (r : ℕ) → j.old ≤ r → r < j.old + j.many → record_at f z r ≡ zeros z.l
 
 -- "Confirmation comes after these writes and also requires the zeros": for every file, scan and job, hand-made ones too.
@@ -25,20 +23,20 @@ ConfirmedErased = (f scan : List ℕ) (j : Job) → is_confirmed (step_answer f 
 -- A confirmed job leaves no record of the scan that it replaced or cleared that is not zeros.
 abbrev pub NoneReadable : Type 0
 NoneReadable =
-    (f : List ℕ) (z : Sizes) → open_of f ≡ Opens z → (op : Op) → Whole op → takes f op ≡ true → (i : ℕ) → is_confirmed (answer_after f op i) ≡ true
+    (f : List ℕ) (z : Sizes) → open_of f ≡ Ok z → (op : Op) → Whole op → takes f op ≡ true → (i : ℕ) → is_confirmed (answer_after f op i) ≡ true
     → (r : ℕ) → 1 ≤ r → (old_by f z op).first ≤ r → r ≤ (old_by f z op).last → record_at (state_after f op i).file z r ≡ zeros z.l
 
 -- ---- the question
 
 -- it says yes exactly when every data record in no listed scan is zeros, and no exactly when one of them is not
 pub record Asks (f : List ℕ) (z : Sizes) : Type 0 where
-  pub yes_so : gaps_of f ≡ Is true → GapsZero f z
-  pub so_yes : GapsZero f z → gaps_of f ≡ Is true
-  pub no_so : gaps_of f ≡ Is false → SomeLeft f z
-  pub so_no : SomeLeft f z → gaps_of f ≡ Is false
+  pub yes_so : gaps_of f ≡ Ok true → GapsZero f z
+  pub so_yes : GapsZero f z → gaps_of f ≡ Ok true
+  pub no_so : gaps_of f ≡ Ok false → SomeLeft f z
+  pub so_no : SomeLeft f z → gaps_of f ≡ Ok false
 
 abbrev pub GapsExactly : Type 0
-GapsExactly = (f : List ℕ) (z : Sizes) → open_of f ≡ Opens z → Asks f z
+GapsExactly = (f : List ℕ) (z : Sizes) → open_of f ≡ Ok z → Asks f z
 
 -- ---- after confirmed jobs
 
@@ -50,4 +48,4 @@ Finished f (o ∷ os) = (takes f o.op ≡ true → is_confirmed (answer_after f 
 -- After confirmed jobs alone the answer does not fall from yes to no.
 abbrev pub GapsStay : Type 0
 GapsStay =
-    (f : List ℕ) (z : Sizes) → open_of f ≡ Opens z → gaps_of f ≡ Is true → (os : List Done) → Wholes os → Finished f os → gaps_of (after f os) ≡ Is true
+    (f : List ℕ) (z : Sizes) → open_of f ≡ Ok z → gaps_of f ≡ Ok true → (os : List Done) → Wholes os → Finished f os → gaps_of (after f os) ≡ Ok true

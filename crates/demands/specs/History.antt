@@ -1,18 +1,16 @@
 -- A history: saves, keeps and clears, one after the other, each stepped as far as its cut says and then dropped; and what each slot is then to hold.
 use Rattle.std.specs.Prelude.{ℕ, zero, suc, ◌+◌, ◌*◌, ◌%◌, ◌≡◌, Bool, true, false, cond, List, [], ◌∷◌, leb, eqb, length}
+use Rattle.std.specs.Result.{is_ok}
 use Rattle.lent.specs.Lists.{also}
 use Rattle.lent.specs.Write.{pad, zeros}
 use Rattle.paper.specs.declared.sizes.Sizes.{Sizes}
 use Rattle.paper.specs.declared.sizes.Run.{Run}
-use Rattle.paper.specs.declared.answer.Taken.{Taken}
-use Rattle.paper.specs.declared.answer.Taken.TheVariants.{Accepted, Refused}
+use Rattle.paper.specs.Answers.{Begun, StepAnswer}
 use Rattle.paper.specs.declared.job.Job.{Job}
-use Rattle.paper.specs.declared.job.Begun.{Begun}
-use Rattle.paper.specs.declared.job.Step.{Step}
 use Rattle.paper.specs.Sizes.{sizes_of}
 use Rattle.paper.specs.Index.{run_of, shown_of, entry_at}
 use Rattle.paper.specs.Entry.{entry_bytes}
-use Rattle.paper.specs.Store.{records_for, run_from, highest, many_of, place_for, save_of, keep_of, clear_of}
+use Rattle.paper.specs.Store.{records_for, run_from, highest, many_of, place_for, save_of, keep_of, clear_of, job_in}
 use Rattle.paper.specs.Step.{step_file, step_job, step_answer}
 
 -- ---- one operation
@@ -58,7 +56,7 @@ changes_by f z op = records_of z op + 2 + cond (lowers_by f z op) 1 0
 
 -- the slot that it changes
 abbrev pub slot_of : List ℕ → Op → ℕ
-slot_of f op = (begin f op).job.slot
+slot_of f op = (job_in (begin f op)).slot
 
 -- 02, 2026-05: the records of "the scan replaced or cleared"
 abbrev pub old_by : List ℕ → Sizes → Op → Run
@@ -68,12 +66,8 @@ old_by f z op = run_of f z (slot_of f op)
 abbrev pub writes_by : List ℕ → Sizes → Op → ℕ
 writes_by f z op = changes_by f z op + many_of (old_by f z op)
 
-abbrev pub is_accepted : Taken → Bool
-is_accepted Accepted = true
-is_accepted (Refused r) = false
-
 abbrev pub takes : List ℕ → Op → Bool
-takes f op = is_accepted (begin f op).answer
+takes f op = is_ok (begin f op)
 
 -- ---- its steps
 
@@ -90,10 +84,10 @@ steps scan s (suc i) = next scan (steps scan s i)
 
 -- file and job after i steps
 abbrev pub state_after : List ℕ → Op → ℕ → State
-state_after f op i = steps (scan_of op) (record { file = f; job = (begin f op).job }) i
+state_after f op i = steps (scan_of op) (record { file = f; job = job_in (begin f op) }) i
 
 -- what the step after those answers
-abbrev pub answer_after : List ℕ → Op → ℕ → Step
+abbrev pub answer_after : List ℕ → Op → ℕ → StepAnswer
 answer_after f op i = step_answer (state_after f op i).file (scan_of op) (state_after f op i).job
 
 -- how far an operation went before it was dropped, or the power cut

@@ -1,7 +1,6 @@
 -- U after a confirmed operation goes on to be exact, whatever is then refused, or begun and dropped before its first write.
-use Rattle.std.specs.Prelude.{ℕ, ◌≡◌, true, List, [], ◌∷◌, ◌++◌}
+use Rattle.std.specs.Prelude.{ℕ, ◌≡◌, true, List, [], ◌∷◌, ◌++◌, Ok}
 use Rattle.paper.specs.declared.sizes.Sizes.{Sizes}
-use Rattle.paper.specs.declared.answer.Opened.TheVariants.{Opens}
 use Rattle.paper.specs.Index.{open_of}
 use Rattle.paper.specs.Step.{is_confirmed}
 use Rattle.demands.specs.History.{Op, Whole, takes, answer_after, stepped, steps_of, run, Done, Wholes, after}
@@ -23,6 +22,6 @@ IdleLeaves = (f : List ℕ) (os : List Done) → Idle f os → after f os ≡ f
 -- After any history, whatever was cut in it, whose last operation that wrote anything was confirmed.
 abbrev pub UsedStays : Type 0
 UsedStays =
-    (f : List ℕ) (z : Sizes) → open_of f ≡ Opens z → (os : List Done) → Wholes os → (op : Op) → Whole op → takes (after f os) op ≡ true → (i : ℕ)
+    (f : List ℕ) (z : Sizes) → open_of f ≡ Ok z → (os : List Done) → Wholes os → (op : Op) → Whole op → takes (after f os) op ≡ true → (i : ℕ)
     → is_confirmed (answer_after (after f os) op i) ≡ true
     → (rest : List Done) → Idle (run (after f os) op (stepped i)) rest → Exact (after f (os ++ (record { op = op; cut = stepped i } ∷ rest)))

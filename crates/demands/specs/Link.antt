@@ -1,13 +1,12 @@
 -- 02, 2026-07: "Opening over the slow link". Whatever the cutting, link and row are those of the bytes so far, and finish says what open says of the whole file.
-use Rattle.std.specs.Prelude.{ℕ, ◌+◌, ◌*◌, ◌≤◌, ◌<◌, ◌≡◌, List, [], ◌∷◌, ◌++◌, length, take, get_or}
+use Rattle.std.specs.Prelude.{ℕ, ◌+◌, ◌*◌, ◌≤◌, ◌<◌, ◌≡◌, List, [], ◌∷◌, ◌++◌, length, take, get_or, Ok, Err}
 use Rattle.paper.specs.declared.sizes.Sizes.{Sizes}
 use Rattle.paper.specs.declared.refusal.Refusal.TheVariants.{NotAllCame}
-use Rattle.paper.specs.declared.answer.Opened.{Opened}
-use Rattle.paper.specs.declared.answer.Opened.TheVariants.{Opens, Refused}
+use Rattle.paper.specs.Answers.{Opened}
 use Rattle.paper.specs.declared.link.Link.{Link}
 use Rattle.paper.specs.Sizes.{capacity_of, home_of}
 use Rattle.paper.specs.Index.{run_of, row_run, boot_of, open_of}
-use Rattle.paper.specs.Link.{fresh_link, took_link, took_row, width_of, begin_of, take_of, take_row, finish_of}
+use Rattle.paper.specs.Link.{fresh_link, took_link, took_row, width_of, begin_of, take_of, take_row, finish_of, link_in}
 use Rattle.demands.specs.Entries.{Bytes}
 
 -- ---- the calls, one after the other
@@ -18,10 +17,10 @@ pub record State : Type 0 where
   pub row : List ℕ
 
 abbrev pub begun : ℕ → List ℕ → State
-begun len row = record { link = (begin_of len row).link; row = row }
+begun len row = record { link = link_in (fresh_link 0) (begin_of len row); row = row }
 
 abbrev pub taking : State → List ℕ → State
-taking s p = record { link = (take_of s.link p s.row).link; row = take_row s.link p s.row }
+taking s p = record { link = link_in s.link (take_of s.link p s.row); row = take_row s.link p s.row }
 
 -- "bytes in pieces cut anywhere": any list of pieces, empty ones too
 unfoldable pub after : State → List (List ℕ) → State
@@ -44,8 +43,8 @@ Made k = length k.boot ≡ 32
 
 -- "cut anywhere": two pieces are as good as the one that they make
 pub record Uncut (k : Link) (a b old : List ℕ) : Type 0 where
-  pub link : (take_of (take_of k a old).link b (take_row k a old)).link ≡ (take_of k (a ++ b) old).link
-  pub row : take_row (take_of k a old).link b (take_row k a old) ≡ take_row k (a ++ b) old
+  pub link : link_in (link_in k (take_of k a old)) (take_of (link_in k (take_of k a old)) b (take_row k a old)) ≡ link_in k (take_of k (a ++ b) old)
+  pub row : take_row (link_in k (take_of k a old)) b (take_row k a old) ≡ take_row k (a ++ b) old
 
 abbrev pub LinkUncut : Type 0
 LinkUncut = (k : Link) (a b row : List ℕ) → Made k → Uncut k a b row
@@ -79,11 +78,11 @@ Comes f bytes = (i : ℕ) → i < length f → i < length bytes → get_or bytes
 -- what finish says of the file f after so many bytes
 pub record Verdict (f : List ℕ) (came : ℕ) (r : Opened) : Type 0 where
   -- "20 if the length is 512 or more and fewer than 32 bytes came"
-  pub none : 512 ≤ length f → came < 32 → r ≡ Refused NotAllCame
+  pub none : 512 ≤ length f → came < 32 → r ≡ Err NotAllCame
   -- "or if the bootstrap breaks nothing and fewer than N x L came"
-  pub part : (z : Sizes) → boot_of f ≡ Opens z → came < z.n * z.l → r ≡ Refused NotAllCame
+  pub part : (z : Sizes) → boot_of f ≡ Ok z → came < z.n * z.l → r ≡ Err NotAllCame
   -- "else open's own"
-  pub whole : (512 ≤ length f → 32 ≤ came) → ((z : Sizes) → boot_of f ≡ Opens z → z.n * z.l ≤ came) → r ≡ open_of f
+  pub whole : (512 ≤ length f → 32 ≤ came) → ((z : Sizes) → boot_of f ≡ Ok z → z.n * z.l ≤ came) → r ≡ open_of f
 
 abbrev pub LinkVerdict : Type 0
 LinkVerdict = (f row : List ℕ) (ps : List (List ℕ)) → Bytes f → 8192 ≤ length row → Comes f (joined ps)
@@ -95,6 +94,6 @@ LinkOpens = (f row : List ℕ) (ps : List (List ℕ)) → Bytes f → 8192 ≤ l
 
 -- "Row in slot order": the row holds the run of each slot whose numbers came
 abbrev pub LinkRow : Type 0
-LinkRow = (f row : List ℕ) (ps : List (List ℕ)) (z : Sizes) → Bytes f → 8192 ≤ length row → Comes f (joined ps) → boot_of f ≡ Opens z
+LinkRow = (f row : List ℕ) (ps : List (List ℕ)) (z : Sizes) → Bytes f → 8192 ≤ length row → Comes f (joined ps) → boot_of f ≡ Ok z
     → (s : ℕ) → 1 ≤ s → s ≤ capacity_of z → home_of z s + 2 * width_of z.version ≤ length (joined ps)
     → row_run (after (begun (length f) row) ps).row s ≡ run_of f z s

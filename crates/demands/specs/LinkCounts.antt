@@ -1,8 +1,7 @@
 -- 02, 2026-07: "Bytes past the index are passed over". Of a link that was begun: how many bytes count of those that came, that no other leaves a trace, and what of the row stays as it was.
-use Rattle.std.specs.Prelude.{ℕ, ◌*◌, ◌≤◌, ◌<◌, min, ◌≡◌, List, length, take, get_or}
+use Rattle.std.specs.Prelude.{ℕ, ◌*◌, ◌≤◌, ◌<◌, min, ◌≡◌, List, length, take, get_or, Ok, Err}
 use Rattle.paper.specs.declared.sizes.Sizes.{Sizes}
 use Rattle.paper.specs.declared.refusal.Refusal.{Refusal}
-use Rattle.paper.specs.declared.answer.Opened.TheVariants.{Opens, Refused}
 use Rattle.paper.specs.declared.link.Link.{Link}
 use Rattle.paper.specs.Sizes.{sizes_of, capacity_of}
 use Rattle.paper.specs.Index.{boot_of}
@@ -63,11 +62,11 @@ LinkRowStays = (len : ℕ) (row : List ℕ) (ps : List (List ℕ)) → 8192 ≤ 
 
 -- the same by the file's bootstrap: N x L bytes and no more where it breaks nothing, at most its 32 where it is refused
 pub record OfFile (f old bytes : List ℕ) (s : State) : Type 0 where
-  pub index : (z : Sizes) → boot_of f ≡ Opens z → s.link.came ≡ min (z.n * z.l) (length bytes)
-  pub first : (z : Sizes) → boot_of f ≡ Opens z → s ≡ taking (begun (length f) old) (take (z.n * z.l) bytes)
-  pub past : (z : Sizes) → boot_of f ≡ Opens z → (i : ℕ) → 2 * capacity_of z ≤ i → get_or s.row i 0 ≡ get_or old i 0
-  pub few : (r : Refusal) → boot_of f ≡ Refused r → s.link.came ≤ 32
-  pub stays : (r : Refusal) → boot_of f ≡ Refused r → s.row ≡ old
+  pub index : (z : Sizes) → boot_of f ≡ Ok z → s.link.came ≡ min (z.n * z.l) (length bytes)
+  pub first : (z : Sizes) → boot_of f ≡ Ok z → s ≡ taking (begun (length f) old) (take (z.n * z.l) bytes)
+  pub past : (z : Sizes) → boot_of f ≡ Ok z → (i : ℕ) → 2 * capacity_of z ≤ i → get_or s.row i 0 ≡ get_or old i 0
+  pub few : (r : Refusal) → boot_of f ≡ Err r → s.link.came ≤ 32
+  pub stays : (r : Refusal) → boot_of f ≡ Err r → s.row ≡ old
 
 abbrev pub LinkFile : Type 0
 LinkFile = (f row : List ℕ) (ps : List (List ℕ)) → 8192 ≤ length row → Comes f (joined ps) → OfFile f row (joined ps) (after (begun (length f) row) ps)

@@ -2,27 +2,20 @@
 -- lent and handed back by equations.
 use Rattle.std.specs.Prelude.{ℕ, ◌≡◌, List}
 use Rattle.lent.specs.Part.{bytes_on}
-use Rattle.paper.specs.declared.answer.Opened.{Opened}
-use Rattle.paper.specs.declared.answer.Listed.{Listed}
-use Rattle.paper.specs.declared.answer.Span.{Span}
-use Rattle.paper.specs.declared.answer.Taken.{Taken}
-use Rattle.paper.specs.declared.answer.Asked.{Asked}
-use Rattle.paper.specs.declared.entry.Found.{Found}
+use Rattle.paper.specs.Answers.{Opened, Listed, Span, Taken, Asked, Found, Begun, Linked, taken_in}
 use Rattle.paper.specs.declared.job.Job.{Job}
-use Rattle.paper.specs.declared.job.Begun.{Begun}
 use Rattle.paper.specs.declared.job.Stepped.{Stepped}
 use Rattle.paper.specs.declared.link.Link.{Link}
-use Rattle.paper.specs.declared.link.Linked.{Linked}
 use Rattle.paper.specs.Refusals.{opened_says, listed_says, span_says, taken_says, asked_says, step_says}
 use Rattle.paper.specs.Index.{open_of}
 use Rattle.paper.specs.Scan.{part_of, span_place, class_of, data_of}
-use Rattle.paper.specs.Look.{listed_of, listed_out, found_of, show_of, read_of}
-use Rattle.paper.specs.Store.{blank_of, blank_file, save_of, keep_of, clear_of}
+use Rattle.paper.specs.Look.{listed_of, listed_out, found_of, show_of, read_of, fields_in}
+use Rattle.paper.specs.Store.{blank_of, blank_file, save_of, keep_of, clear_of, job_in}
 use Rattle.paper.specs.Step.{step_file, step_job, step_answer}
 use Rattle.paper.specs.Gaps.{gaps_of}
 use Rattle.paper.specs.Find.{report_of, report_out}
 use Rattle.paper.specs.Convert.{convert_of, converted_out}
-use Rattle.paper.specs.Link.{begin_of, take_of, take_row, finish_of}
+use Rattle.paper.specs.Link.{fresh_link, begin_of, take_of, take_row, finish_of, link_in}
 
 -- at most one is allowed
 abbrev pub Only : {A : Type 0} → (A → Type 0) → Type 0
@@ -38,13 +31,13 @@ pub record Slice : Type 0 where
   pub holds : List ℕ
   pub begins : ℕ × ℕ
 
--- the answer of a beginning and its job
+-- what a beginning says, and the job that it hands back
 abbrev pub Begins : Begun → Begun → Type 0
-Begins is x = (taken_says x.answer ≡ taken_says is.answer) × (x.job ≡ is.job)
+Begins is x = (taken_says (taken_in x) ≡ taken_says (taken_in is)) × (job_in x ≡ job_in is)
 
--- the answer of a link's begin or take and the link
-abbrev pub Links : Linked → Linked → Type 0
-Links is x = (taken_says x.answer ≡ taken_says is.answer) × (x.link ≡ is.link)
+-- what a link's begin or take says, and the link that it hands back, k where it is refused
+abbrev pub Links : Link → Linked → Linked → Type 0
+Links k is x = (taken_says (taken_in x) ≡ taken_says (taken_in is)) × (link_in k x ≡ link_in k is)
 
 pub record OneOutcome : Type 0 where
   pub open_file : (f : List ℕ) → Only (λ (x : Opened). opened_says x ≡ opened_says (open_of f))
@@ -54,7 +47,7 @@ pub record OneOutcome : Type 0 where
   pub find : (f out : List ℕ)
       → Only (λ (x : Outcome Listed). (listed_says x.answer ≡ listed_says (report_of f out)) × (x.lent ≡ report_out f out))
   pub entry : (f : List ℕ) (s : ℕ)
-      → Only (λ (x : Found). (taken_says x.answer ≡ taken_says (found_of f s).answer) × (x.entry ≡ (found_of f s).entry))
+      → Only (λ (x : Found). (taken_says (taken_in x) ≡ taken_says (taken_in (found_of f s))) × (fields_in x ≡ fields_in (found_of f s)))
   pub show : (f : List ℕ) (s : ℕ) → Only (λ (x : Span). span_says x ≡ span_says (show_of f s))
   pub read : (f : List ℕ) (s : ℕ) → Only (λ (x : Span). span_says x ≡ span_says (read_of f s))
   pub class : (s : List ℕ) (n : ℕ) → Only (λ (x : Span). span_says x ≡ span_says (class_of s n))
@@ -72,6 +65,6 @@ pub record OneOutcome : Type 0 where
   pub convert : (v : ℕ) (f out : List ℕ)
       → Only (λ (x : Outcome Taken). (taken_says x.answer ≡ taken_says (convert_of v f out)) × (x.lent ≡ converted_out v f out))
   -- 2026-07: "what each call leaves in link and row is an equation"; begin writes nothing to the row, and finish "changes nothing"
-  pub link_begin : (len : ℕ) (row : List ℕ) → Only (Links (begin_of len row))
-  pub link_take : (k : Link) (p row : List ℕ) → Only (λ (x : Outcome Linked). Links (take_of k p row) x.answer × (x.lent ≡ take_row k p row))
+  pub link_begin : (len : ℕ) (row : List ℕ) → Only (Links (fresh_link 0) (begin_of len row))
+  pub link_take : (k : Link) (p row : List ℕ) → Only (λ (x : Outcome Linked). Links k (take_of k p row) x.answer × (x.lent ≡ take_row k p row))
   pub link_finish : (k : Link) (row : List ℕ) → Only (λ (x : Opened). opened_says x ≡ opened_says (finish_of k row))

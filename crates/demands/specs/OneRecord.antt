@@ -1,5 +1,5 @@
 -- Demand 3 rests on it: "Each step writes at most one record", and its answer names that record. Whoever makes just this record durable has made the whole step durable.
-use Rattle.std.specs.Prelude.{ℕ, ◌+◌, ◌≤◌, ◌<◌, ◌≡◌, true, List, length, take, get_or}
+use Rattle.std.specs.Prelude.{ℕ, ◌+◌, ◌≤◌, ◌<◌, ◌≡◌, true, List, length, take, get_or, Ok}
 use Rattle.paper.specs.declared.sizes.Sizes.{Sizes}
 use Rattle.paper.specs.declared.job.Job.{Job}
 use Rattle.paper.specs.declared.job.Step.TheVariants.{Wrote}
@@ -41,11 +41,11 @@ pub record Renewed (j k : Job) (count : ℕ) (head : List ℕ) : Type 0 where
 -- For every file, scan and job, hand-made ones too. What a refused step leaves is `Untouched` step-job.
 pub record OneRecord : Type 0 where
   -- a step that wrote: one record, the one that it names; the job's 54 bytes are such
-  pub wrote : (f scan : List ℕ) (j : Job) → length j.about ≡ 54 → (r count : ℕ) → step_answer f scan j ≡ Wrote r count
+  pub wrote : (f scan : List ℕ) (j : Job) → length j.about ≡ 54 → (r count : ℕ) → step_answer f scan j ≡ Ok (Wrote r count)
       → ButRecord f (step_file f scan j) (sizes_of f) r
-  pub named : (f scan : List ℕ) (j : Job) (r count : ℕ) → step_answer f scan j ≡ Wrote r count → Named f scan j r count
+  pub named : (f scan : List ℕ) (j : Job) (r count : ℕ) → step_answer f scan j ≡ Ok (Wrote r count) → Named f scan j r count
   -- the job that it hands back: the count, and the first 32 bytes of the file as the step left it
-  pub job : (f scan : List ℕ) (j : Job) (r count : ℕ) → step_answer f scan j ≡ Wrote r count
+  pub job : (f scan : List ℕ) (j : Job) (r count : ℕ) → step_answer f scan j ≡ Ok (Wrote r count)
       → Renewed j (step_job f scan j) count (take 32 (step_file f scan j))
   -- a step that confirmed: nothing is written, and the job is as it was
   pub confirmed : (f scan : List ℕ) (j : Job) → is_confirmed (step_answer f scan j) ≡ true → (step_file f scan j ≡ f) × (step_job f scan j ≡ j)

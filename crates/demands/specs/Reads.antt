@@ -1,10 +1,8 @@
 -- Demand 2, "what we read is what those rules say": what list, show, read, class and data answer where they are accepted, in plain facts.
-use Rattle.std.specs.Prelude.{ℕ, ◌+◌, ◌-◌, ◌*◌, ◌/◌, ◌≤◌, ◌<◌, ◌≡◌, false, List, length, get_or}
+use Rattle.std.specs.Prelude.{ℕ, ◌+◌, ◌-◌, ◌*◌, ◌/◌, ◌≤◌, ◌<◌, ◌≡◌, false, List, length, get_or, Ok}
 use Rattle.lent.specs.Number.{be16, int16}
 use Rattle.lent.specs.Part.{part}
 use Rattle.paper.specs.declared.sizes.Sizes.{Sizes}
-use Rattle.paper.specs.declared.answer.Listed.TheVariants.{Scans}
-use Rattle.paper.specs.declared.answer.Span.TheVariants.{Part}
 use Rattle.paper.specs.Sizes.{sizes_of, version_of, word_at, record_of, place_of}
 use Rattle.paper.specs.Entry.{natural_of}
 use Rattle.paper.specs.Scan.{classes_of, headlen, datalen, class_of, data_of, Rule}
@@ -33,7 +31,7 @@ pub record Lines (f out : List ℕ) (n : ℕ) (after : List ℕ) : Type 0 where
   pub as_long : length after ≡ length out
 
 abbrev pub ListLines : Type 0
-ListLines = (f out : List ℕ) (n : ℕ) → listed_of f out ≡ Scans n → Lines f out n (listed_out f out)
+ListLines = (f out : List ℕ) (n : ℕ) → listed_of f out ≡ Ok n → Lines f out n (listed_out f out)
 
 -- ---- show
 
@@ -45,14 +43,14 @@ pub record Shown (f : List ℕ) (z : Sizes) (s from to : ℕ) : Type 0 where
   pub within : to ≤ length f
 
 abbrev pub ShowRecords : Type 0
-ShowRecords = (f : List ℕ) (s from to : ℕ) → show_of f s ≡ Part from to → Shown f (sizes_of f) s from to
+ShowRecords = (f : List ℕ) (s from to : ℕ) → show_of f s ≡ Ok (from, to) → Shown f (sizes_of f) s from to
 
 -- ---- read
 
 -- "A read answers the first HEADLEN + DATALEN bytes of the entry's records", and never those of a scan that breaks a rule
 pub record Read (f : List ℕ) (s from to : ℕ) : Type 0 where
   pub end : ℕ
-  pub shows : show_of f s ≡ Part from end
+  pub shows : show_of f s ≡ Ok (from, end)
   -- "Magic 2 is a version 1 scan; any other is listed and shown, but not read"
   pub version-one : version_of f ≡ 0 → be16 f (entry_byte (sizes_of f) s + 4) ≡ 2
   pub keeps : (n : ℕ) → Rule (part from end f) false n
@@ -62,7 +60,7 @@ pub record Read (f : List ℕ) (s from to : ℕ) : Type 0 where
   pub alone : (n : ℕ) → Rule (part from to f) false n
 
 abbrev pub ReadScan : Type 0
-ReadScan = (f : List ℕ) (s from to : ℕ) → read_of f s ≡ Part from to → Read f s from to
+ReadScan = (f : List ℕ) (s from to : ℕ) → read_of f s ≡ Ok (from, to) → Read f s from to
 
 -- ---- class and data
 
@@ -70,22 +68,22 @@ ReadScan = (f : List ℕ) (s from to : ℕ) → read_of f s ≡ Part from to →
 pub record Tiled (s : List ℕ) : Type 0 where
   pub from : ℕ → ℕ
   pub to : ℕ → ℕ
-  pub class : (k : ℕ) → 1 ≤ k → k ≤ classes_of s → class_of s k ≡ Part (from k) (to k)
+  pub class : (k : ℕ) → 1 ≤ k → k ≤ classes_of s → class_of s k ≡ Ok (from k, to k)
   pub some : (k : ℕ) → 1 ≤ k → k ≤ classes_of s → from k < to k
   -- "a Real*8 word number counted from 1"
   pub starts : (k : ℕ) → 1 ≤ k → k ≤ classes_of s → from k + 8 ≡ 8 * natural_of (int16 (be16 s (2 * k)))
   pub first : from 1 ≡ 32
   pub next : (k : ℕ) → 1 ≤ k → k < classes_of s → to k ≡ from (k + 1)
   pub last : to (classes_of s) ≡ headlen s
-  pub rest : data_of s ≡ Part (headlen s) (headlen s + datalen s)
+  pub rest : data_of s ≡ Ok (headlen s, headlen s + datalen s)
   pub within : headlen s + datalen s ≤ length s
   -- "an empty part for a class number outside 1 to the count"
-  pub below : class_of s 0 ≡ Part 0 0
-  pub above : (k : ℕ) → classes_of s < k → class_of s k ≡ Part 0 0
+  pub below : class_of s 0 ≡ Ok (0, 0)
+  pub above : (k : ℕ) → classes_of s < k → class_of s k ≡ Ok (0, 0)
 
 -- where a class or the data are given at all
 abbrev pub ClassesTile : Type 0
-ClassesTile = (s : List ℕ) (k from to : ℕ) → class_of s k ≡ Part from to → Tiled s
+ClassesTile = (s : List ℕ) (k from to : ℕ) → class_of s k ≡ Ok (from, to) → Tiled s
 
 abbrev pub DataTile : Type 0
-DataTile = (s : List ℕ) (from to : ℕ) → data_of s ≡ Part from to → Tiled s
+DataTile = (s : List ℕ) (from to : ℕ) → data_of s ≡ Ok (from, to) → Tiled s

@@ -1,9 +1,8 @@
 -- Demand 2, of what is listed and counted: the index fixes the list, and a step's record and count are the job's place in its list of writes.
-use Rattle.std.specs.Prelude.{ℕ, ◌+◌, ◌-◌, ◌*◌, ◌≤◌, ◌≡◌, true, length, get_or}
+use Rattle.std.specs.Prelude.{ℕ, ◌+◌, ◌-◌, ◌*◌, ◌≤◌, ◌≡◌, true, length, get_or, Ok}
 use mathlib.Core.List.{List, Memᴰ}
 use Rattle.lent.specs.Lists.{Rising}
 use Rattle.paper.specs.declared.sizes.Sizes.{Sizes}
-use Rattle.paper.specs.declared.answer.Opened.TheVariants.{Opens}
 use Rattle.paper.specs.declared.job.Job.{Job}
 use Rattle.paper.specs.declared.job.Step.TheVariants.{Wrote}
 use Rattle.paper.specs.Sizes.{sizes_of, capacity_of}
@@ -20,7 +19,7 @@ pub record Exactly (f : List ℕ) (z : Sizes) : Type 0 where
   pub rising : Rising (list_of f)
 
 abbrev pub ListExactly : Type 0
-ListExactly = (f : List ℕ) (z : Sizes) → open_of f ≡ Opens z → Exactly f z
+ListExactly = (f : List ℕ) (z : Sizes) → open_of f ≡ Ok z → Exactly f z
 
 -- what a step that wrote did: the next write of its job's list, and no other
 pub record Next (f scan : List ℕ) (j : Job) (r count : ℕ) : Type 0 where
@@ -30,7 +29,7 @@ pub record Next (f scan : List ℕ) (j : Job) (r count : ℕ) : Type 0 where
   pub job : (step_job f scan j).written ≡ count
 
 abbrev pub WroteNext : Type 0
-WroteNext = (f scan : List ℕ) (j : Job) (r count : ℕ) → step_answer f scan j ≡ Wrote r count → Next f scan j r count
+WroteNext = (f scan : List ℕ) (j : Job) (r count : ℕ) → step_answer f scan j ≡ Ok (Wrote r count) → Next f scan j r count
 
 -- the bytes that no step of a job changes: "kept by every write" after word 8, "other bytes of that record kept", and the records of others
 pub record Outside (z : Sizes) (j : Job) (b : ℕ) : Type 0 where

@@ -10,7 +10,8 @@ use borrow.Author.Tests.{lt-ltb}
 use lib.ListN.{length, get_or, set, length-set}
 use lib.Seq.{get_or-set_same, get_or-set_other}
 use Rattle.lent.specs.Number.{be16, be32, widened, Plain}
-use Rattle.lent.specs.Least.{least}
+use Rattle.std.specs.Prelude.{Option}
+use Rattle.lent.specs.Least.{least, some_number}
 use Rattle.lent.proofs.Leasts.{least-same}
 use Rattle.lent.proofs.Numbers.{number-join}
 use Rattle.paper.specs.declared.sizes.Sizes.{Sizes}
@@ -135,13 +136,13 @@ fits-same z run sun n e i h g =
       shared = record { none = λ s l m. shared_same z run sun n e s l (omega arith) ∙ g.shared.none s l m };
     }
 
--- a row that was filled from a file
-module _ (f : List ℕ) (z : Sizes) (row : List ℕ) (h : Runs f z row z.u) where
-  pub bad-row : {k : ℕ} → k ≡ least (bad_at z (row_run row)) z.u → k ≡ least (bad_at z (run_of f z)) z.u
-  bad-row e = e ∙ least-same _ _ z.u (bad-same z (row_run row) (run_of f z) z.u h.run)
+-- a row that holds the runs of the slots in use
+module _ (z : Sizes) (row : List ℕ) (run : ℕ → Run) (h : (s : ℕ) → 1 ≤ s → s ≤ z.u → row_run row s ≡ run s) where
+  pub bad-row : {k : Option ℕ} → k ≡ some_number (least (bad_at z (row_run row)) z.u) → k ≡ some_number (least (bad_at z run) z.u)
+  bad-row e = e ∙ ap some_number (least-same _ _ z.u (bad-same z (row_run row) run z.u h))
 
-  pub shared-row : {k : ℕ} → k ≡ least (shared_at (row_run row)) z.u → k ≡ least (shared_at (run_of f z)) z.u
-  shared-row e = e ∙ least-same _ _ z.u (shared_same z (row_run row) (run_of f z) z.u h.run)
+  pub shared-row : {k : Option ℕ} → k ≡ some_number (least (shared_at (row_run row)) z.u) → k ≡ some_number (least (shared_at run) z.u)
+  shared-row e = e ∙ ap some_number (least-same _ _ z.u (shared_same z (row_run row) run z.u h))
 
-  pub fits-row : (i : ℕ) → i ≤ z.u → Fits z (run_of f z) i → Fits z (row_run row) i
-  fits-row = fits-same z (row_run row) (run_of f z) z.u h.run
+  pub fits-row : (i : ℕ) → i ≤ z.u → Fits z run i → Fits z (row_run row) i
+  fits-row = fits-same z (row_run row) run z.u h

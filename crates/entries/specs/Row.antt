@@ -1,11 +1,12 @@
 -- A row of 32-bit numbers that holds the entries in use: first and last of each slot, in slot order.
-use Rattle.std.specs.Prelude.{ℕ, ◌+◌, ◌*◌, ◌≤◌, ◌<◌, ◌≡◌, List, length}
+use Rattle.std.specs.Prelude.{ℕ, ◌+◌, ◌*◌, ◌≤◌, ◌<◌, ◌≡◌, List, length, Option}
 use Rattle.lent.specs.Number.{Plain}
-use Rattle.lent.specs.Least.{None}
+use Rattle.lent.specs.Least.{least, some_number, None}
 use Rattle.paper.specs.declared.sizes.Sizes.{Sizes}
 use Rattle.paper.specs.declared.sizes.Run.{Run}
+use Rattle.paper.specs.Answers.{Opened}
 use Rattle.paper.specs.Sizes.{word_at, capacity_of}
-use Rattle.paper.specs.Index.{run_of, row_run, bad_at, shared_at, Booted}
+use Rattle.paper.specs.Index.{run_of, row_run, bad_at, above_at, shared_at, index_of, Booted}
 
 -- s is a slot, and the row reaches it
 pub record InRow (row : List ℕ) (s : ℕ) : Type 0 where
@@ -43,6 +44,10 @@ pub record Runs (f : List ℕ) (z : Sizes) (row : List ℕ) (i : ℕ) : Type 0 w
 pub record Fits (z : Sizes) (run : ℕ → Run) (i : ℕ) : Type 0 where
   pub bad : None (bad_at z run) i
   pub shared : None (shared_at run) i
+
+-- o is the judgement of each index whose slots in use are those of the row, and whose lowest slot above U that is not empty is `above`
+pub record Judged (row : List ℕ) (z : Sizes) (above : Option ℕ) (o : Opened) : Type 0 where
+  pub is : (run : ℕ → Run) → ((s : ℕ) → 1 ≤ s → s ≤ z.u → row_run row s ≡ run s) → above ≡ some_number (least (above_at z run) (capacity_of z)) → o ≡ index_of z run
 
 -- the slots after slot i, up to slot j, are empty
 pub record Bare (f : List ℕ) (z : Sizes) (i j : ℕ) : Type 0 where

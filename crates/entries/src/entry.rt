@@ -8,26 +8,14 @@ use paper::sizes::{Run, Sizes};
 pub fn empty(a: Run) -> bool
     ensures { result ≡ empty a }
 {
-    if a.first != 0 {
-        return false;
-    }
-    if a.last != 0 {
-        return false;
-    }
-    true
+    a.first == 0 && a.last == 0
 }
 
 // How many records the run has.
 pub fn many(a: Run) -> usize
     ensures { result ≡ many_of a }
 {
-    if a.last < a.first {
-        return 0;
-    }
-    if a.first == 0 {
-        return a.last;
-    }
-    a.last - (a.first - 1)
+    a.last.saturating_sub(a.first.saturating_sub(1))
 }
 
 // The run lies in the data records.
@@ -40,10 +28,7 @@ pub fn in_data(a: Run, z: Sizes) -> bool
     if a.last < a.first {
         return false;
     }
-    if z.d < a.last - z.n {
-        return false;
-    }
-    true
+    a.last - z.n <= z.d
 }
 
 // Two runs have a record in common.
@@ -56,11 +41,5 @@ pub fn shares(a: Run, b: Run) -> bool
     if b.last == 0 {
         return false;
     }
-    if b.last < a.first {
-        return false;
-    }
-    if a.last < b.first {
-        return false;
-    }
-    true
+    a.first <= b.last && b.first <= a.last
 }

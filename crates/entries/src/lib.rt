@@ -2,5 +2,6 @@
 #![tactic(auto)]
 
 pub mod entry;
+pub mod file;
 pub mod plain;
 pub mod row;

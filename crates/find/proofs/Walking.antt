@@ -1,4 +1,5 @@
 -- The laws of the walk: what a turn finds, where it goes on, and what the two walks have when they end.
+use Rattle.std.specs.Prelude.{Ok, Err}
 use Prim.Native.Nat.{ℕ, zero, suc, ◌+◌, ◌-◌, ◌*◌, ◌≤◌, ◌<◌}
 use mathlib.Core.Path.{◌≡◌, refl, sym, ◌∙◌, ap}
 use mathlib.Core.Bool.{Bool, true, false, cond}
@@ -17,7 +18,6 @@ use Rattle.lent.proofs.Lists.{true≢false, lt-or-ge, length-threes, threes-appe
 use Rattle.lent.proofs.Numbers.{number-part}
 use Rattle.lent.proofs.Writes.{write-nothing, write-next, length-write, stored}
 use Rattle.paper.specs.declared.sizes.Sizes.{Sizes}
-use Rattle.paper.specs.declared.answer.Ruled.TheVariants.{Keeps, Breaks}
 use Rattle.paper.specs.Sizes.{start_of, bytes_of}
 use Rattle.paper.specs.Index.{Booted}
 use Rattle.paper.specs.Entry.{natural_of}
@@ -107,11 +107,11 @@ module _ {f : List ℕ} {z : Sizes} (B : Booted f z) (r : ℕ) (low : 1 ≤ r) (
       let w : be16 (rest_from f z r) 0 ≡ n = number-part big 2 (start_of z r) (bytes_of z) f 0 (omega (arith, record-in, B.ranged.shape.l_low)) ∙ ap (be16 f) (add-zero (start_of z r)) ∙ sym p in
       sym (classes-none f z r (λ q. classes-few n e (rw w at q)))
 
-  pub takes-broken : {n : ℕ} → ruled_of (rest_from f z r) false ≡ Breaks n → 0 ≡ takes_at f z r
+  pub takes-broken : {n : ℕ} → ruled_of (rest_from f z r) false ≡ Err n → 0 ≡ takes_at f z r
   unfolding takes_at
   takes-broken e = sym (ap (takes z) e)
 
-  pub takes-kept : {head rest k : ℕ} → ruled_of (rest_from f z r) false ≡ Keeps head rest → k ≡ records_for z (head + rest) → k ≡ takes_at f z r
+  pub takes-kept : {head rest k : ℕ} → ruled_of (rest_from f z r) false ≡ Ok (head, rest) → k ≡ records_for z (head + rest) → k ≡ takes_at f z r
   unfolding takes_at
   takes-kept e q = q ∙ sym (ap (takes z) e)
 

@@ -1,40 +1,36 @@
 //! The data records in order: past a scan where one begins, else to the next record. One walk counts the scans, one puts them.
 ghost use Rattle.std.specs.Prelude.{◌≡◌, ◌+◌, ◌*◌, ◌≤◌, ◌<◌, length};
 ghost use Rattle.lent.specs.Write.{write};
-ghost use Rattle.paper.specs.Index.{Booted};
 ghost use Rattle.paper.specs.Find.{takes_at, find_of, find_lines};
 ghost use Rattle.find.specs.Walk.{one_if, after_of, finds_at};
 
-use paper::answer::Ruled;
-use paper::sizes::Sizes;
+use entries::file::File;
 
 // How many records the scan has that begins at record `r`; 0 where a rule is broken. The rules look at its first bytes alone.
-fn judged(file: &[u8], z: Sizes, r: usize) -> usize
-    requires booted { Booted file.now z }
-    requires le_r { (1 ≤ r) × (r ≤ z.n + z.d) }
-    ensures { result ≡ takes_at file.now z r }
+fn judged(file: File, r: usize) -> usize
+    requires { (1 ≤ r) × (r ≤ file.z.n + file.z.d) }
+    ensures { result ≡ takes_at file.entry.bytes.now file.entry.z r }
 {
-    let at = (r - 1) * z.l;
-    let end = (z.n + z.d) * z.l;
-    let j = scan::rules::judge(&file[at..end], false);
+    let at = (r - 1) * file.z.l;
+    let end = (file.z.n + file.z.d) * file.z.l;
+    let j = scan::rules::judge(&file.bytes[at..end], false);
     match j {
-        Ruled::Breaks(_) => 0,
-        Ruled::Keeps(head, rest) => writes::count::records_for(z, head + rest),
+        Err(_) => 0,
+        Ok((head, rest)) => writes::count::records_for(file.z, head + rest),
     }
 }
 
 // The same. Two bytes say whether the number of classes is one that a scan can have, and most records that begin none go no further.
-fn takes(file: &[u8], z: Sizes, r: usize) -> usize
-    requires booted { Booted file.now z }
-    requires le_r { (1 ≤ r) × (r ≤ z.n + z.d) }
-    ensures { result ≡ takes_at file.now z r }
+fn takes(file: File, r: usize) -> usize
+    requires { (1 ≤ r) × (r ≤ file.z.n + file.z.d) }
+    ensures { result ≡ takes_at file.entry.bytes.now file.entry.z r }
 {
-    let at = (r - 1) * z.l;
-    let n = lent::read::load16(file, at) as usize;
+    let at = (r - 1) * file.z.l;
+    let n = lent::read::load16(file.bytes, at) as usize;
     if !scan::rules::count_kept(n) {
         return 0;
     }
-    judged(file, z, r)
+    judged(file, r)
 }
 
 // The record to look at after record `r`: past a scan of `k` records, else the next.
@@ -60,15 +56,14 @@ fn next(n: usize, k: usize) -> usize
 }
 
 // How many scans are found.
-pub fn count(file: &[u8], z: Sizes) -> usize
-    requires { Booted file.now z }
-    ensures { (result ≡ length (find_of file.now z)) × (result ≤ 1000000) }
+pub fn count(file: File) -> usize
+    ensures { (result ≡ length (find_of file.entry.bytes.now file.entry.z)) × (result ≤ 1000000) }
 {
-    let last = z.n + z.d;
+    let last = file.z.n + file.z.d;
     let mut n = 0;
-    let mut r = z.n + 1;
+    let mut r = file.z.n + 1;
     while r <= last {
-        let k = takes(file, z, r);
+        let k = takes(file, r);
         n = next(n, k);
         r = after(r, k);
     }
@@ -76,33 +71,33 @@ pub fn count(file: &[u8], z: Sizes) -> usize
 }
 
 // What is found at record `r`, if a scan of `k` records begins there, goes to `at`; the answer is the place after it.
-fn put(file: &[u8], z: Sizes, out: &mut [u64], at: usize, r: usize, k: usize) -> usize
-    requires booted { Booted file.now z × (1 ≤ r) × (r ≤ z.n + z.d) × (k ≤ 1000000) }
-    requires k_in_bounds { at + length (find_lines (finds_at file.now z r k)) ≤ length out.old }
-    ensures value { result ≡ at + length (find_lines (finds_at file.now z r k)) }
-    ensures out_after { out.new ≡ write out.old at (find_lines (finds_at file.now z r k)) }
+fn put(file: File, out: &mut [u64], at: usize, r: usize, k: usize) -> usize
+    requires r_bound { (1 ≤ r) × (r ≤ file.z.n + file.z.d) × (k ≤ 1000000) }
+    requires k_in_bounds { at + length (find_lines (finds_at file.bytes.now file.z r k)) ≤ length out.old }
+    ensures value { result ≡ at + length (find_lines (finds_at file.entry.bytes.now file.entry.z r k)) }
+    ensures out_after { out.new ≡ write out.old at (find_lines (finds_at file.entry.bytes.now file.entry.z r k)) }
 {
     if k == 0 {
         return at;
     }
     out[at] = r as u64;
     out[at + 1] = (r + k - 1) as u64;
-    out[at + 2] = lent::read::load64(file, (r - 1) * z.l + 48);
+    out[at + 2] = lent::read::load64(file.bytes, (r - 1) * file.z.l + 48);
     at + 3
 }
 
 // The finds, of which there are `n`, one after the other. The walk ends with the last of them.
-pub fn fill(file: &[u8], z: Sizes, n: usize, out: &mut [u64])
-    requires booted { Booted file.now z × (n ≡ length (find_of file.now z)) × (n ≤ 1000000) }
+pub fn fill(file: File, n: usize, out: &mut [u64])
+    requires n_bound { (n ≡ length (find_of file.bytes.now file.z)) × (n ≤ 1000000) }
     requires n_in_bounds { 3 * n ≤ length out.old }
-    ensures { out.new ≡ write out.old 0 (find_lines (find_of file.now z)) }
+    ensures { out.new ≡ write out.old 0 (find_lines (find_of file.entry.bytes.now file.entry.z)) }
 {
     let end = 3 * n;
     let mut at = 0;
-    let mut r = z.n + 1;
+    let mut r = file.z.n + 1;
     while at < end {
-        let k = takes(file, z, r);
-        at = put(file, z, &mut *out, at, r, k);
+        let k = takes(file, r);
+        at = put(file, &mut *out, at, r, k);
         r = after(r, k);
     }
 }

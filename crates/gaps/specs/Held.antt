@@ -1,5 +1,5 @@
 -- What the marks of a file that opens show, and how far the walk has come.
-use Rattle.std.specs.Prelude.{ℕ, ◌+◌, ◌≤◌, ◌<◌, ◌≡◌, true, false, List}
+use Rattle.std.specs.Prelude.{ℕ, ◌+◌, ◌≤◌, ◌<◌, ◌≡◌, true, false, List, Option, None, Some}
 use Rattle.marks.specs.Marks.{mark_of}
 use Rattle.paper.specs.declared.sizes.Sizes.{Sizes}
 use Rattle.paper.specs.Index.{run_of}
@@ -15,8 +15,12 @@ pub record Swept (f : List ℕ) (z : Sizes) (r : ℕ) : Type 0 where
   pub past : z.n < r
   pub none : (s : ℕ) → s < r → s ≤ z.n + z.d → left_at f z s ≡ false
 
--- x is 0 where record r is left; else it is a later record, and none from r on and below it is left
-pub record Next (f : List ℕ) (z : Sizes) (r x : ℕ) : Type 0 where
-  pub left : x ≡ 0 → left_at f z r ≡ true
-  pub on : 0 < x → r < x
-  pub none : 0 < x → (s : ℕ) → r ≤ s → s < x → s ≤ z.n + z.d → left_at f z s ≡ false
+-- record x is a later one than record r, and none from r on and below it is left
+pub record Later (f : List ℕ) (z : Sizes) (r x : ℕ) : Type 0 where
+  pub on : r < x
+  pub none : (s : ℕ) → r ≤ s → s < x → s ≤ z.n + z.d → left_at f z s ≡ false
+
+-- none, where record r is left; else a later record
+abbrev pub Next : List ℕ → Sizes → ℕ → Option ℕ → Type 0
+Next f z r None = left_at f z r ≡ true
+Next f z r (Some x) = Later f z r x

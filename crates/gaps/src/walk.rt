@@ -13,11 +13,7 @@ fn mark(file: &[u8], z: Sizes, row: &[u32], marks: &mut [u64]) -> bool
     ensures { result ≡ true → Held file.now z marks.new }
 {
     marks::clear(&mut *marks);
-    let n = z.n;
-    if !marks::take_run(&mut *marks, 0, n) {
-        return false;
-    }
-    z.u <= index::lay::lay_rest(row, z, 0, marks)
+    marks::take_run(&mut *marks, 0, z.n) && z.u <= index::lay::lay_rest(row, z, 0, marks)
 }
 
 // Record `r` is in no listed scan and not all zeros. The slots are tried only for a record that is not zeros.
@@ -31,22 +27,22 @@ fn left(file: &[u8], z: Sizes, row: &[u32], r: usize) -> bool
         return false;
     }
     let a = Run { first: r, last: r };
-    entries::row::sharer(row, a, z.u) == 0
+    entries::row::sharer(row, a, z.u).is_none()
 }
 
-// The record to look at after record `r`, which is past a scan where `r` is marked; or 0 where record `r` is left.
-fn after(file: &[u8], z: Sizes, row: &[u32], marks: &[u64], r: usize) -> usize
+// The record to look at after record `r`, which is past a scan where `r` is marked; or none, where record `r` is left.
+fn after(file: &[u8], z: Sizes, row: &[u32], marks: &[u64], r: usize) -> Option<usize>
     requires decoded { Decoded file.now z row.now z.u × Held file.now z marks.now }
     requires n_lt_r { (z.n < r) × (r ≤ z.n + z.d) }
     ensures { Next file.now z r result }
 {
     if marks::past::taken(marks, r) {
-        return marks::past::past_ones(marks, r + 1);
+        return Some(marks::past::past_ones(marks, r + 1));
     }
     if left(file, z, row, r) {
-        return 0;
+        return None;
     }
-    r + 1
+    Some(r + 1)
 }
 
 // Whether no data record is left, by marks that show listed ones, or none.
@@ -57,10 +53,9 @@ fn none_left(file: &[u8], z: Sizes, row: &[u32], marks: &[u64]) -> bool
     let last = z.n + z.d;
     let mut r = z.n + 1;
     while r <= last {
-        let x = after(file, z, row, marks, r);
-        if x == 0 {
+        let Some(x) = after(file, z, row, marks, r) else {
             return false;
-        }
+        };
         r = x;
     }
     true

@@ -1,15 +1,15 @@
 -- What a judgement leaves behind: the row of the file's runs, and marks that show its records or say that they do not.
+use Rattle.std.specs.Prelude.{Ok, Err}
 use Prim.Native.Nat.{ℕ, ◌≤◌}
 use mathlib.Core.Path.{◌≡◌, sym, ◌∙◌, subst}
 use mathlib.Core.List.{List}
 use native.Mathlib.Omega.{arith}
 use lib.ListN.{set}
-use Rattle.marks.specs.Marks.{Clear}
+use Rattle.lent.proofs.Checks.{err≢ok}
 use Rattle.marks.proofs.Marking.{unset}
 use Rattle.paper.specs.declared.sizes.Sizes.{Sizes}
 use Rattle.paper.specs.declared.refusal.Refusal.{Refusal}
-use Rattle.paper.specs.declared.answer.Opened.{Opened}
-use Rattle.paper.specs.declared.answer.Opened.TheVariants.{Opens, Refused}
+use Rattle.paper.specs.Answers.{Opened}
 use Rattle.paper.specs.Index.{run_of, boot_of, index_of, open_of, Booted}
 use Rattle.paper.proofs.Opening.{open-refused, open-index, boot-sound, sound-boot, index_same}
 use Rattle.entries.specs.Row.{Runs, Fits}
@@ -24,27 +24,21 @@ module _ (f : List ℕ) (z : Sizes) (row : List ℕ) (i : ℕ) (j : JudgedTo f z
   pub runs-all : Runs f z row z.u
   runs-all = runs-low j.runs z.u e
 
--- marks that were not used, and marks that met a doubt
-pub looked-clear : (f : List ℕ) (z : Sizes) (row ws : List ℕ) (r : Opened) → r ≡ index_of z (run_of f z) → Runs f z row z.u → Clear ws → Looked f z row ws r
-looked-clear f z row ws r e h c = record { is = e; runs = h; shows = λ m. absurd (c.none 0 m) }
-
+-- marks that met a doubt
 pub looked-doubt : (f : List ℕ) (z : Sizes) (row ws : List ℕ) (r : Opened) → r ≡ index_of z (run_of f z) → Runs f z row z.u → Looked f z row (set ws 0 0) r
 looked-doubt f z row ws r e h = record { is = e; runs = h; shows = λ m. absurd (unset ws m) }
 
 -- ---- a file
 
-pub booted : (f : List ℕ) (z : Sizes) {j : Opened} → j ≡ boot_of f → j ≡ Opens z → Booted f z
+pub booted : (f : List ℕ) (z : Sizes) {j : Opened} → j ≡ boot_of f → j ≡ Ok z → Booted f z
 booted f z e o = boot-sound (sym e ∙ o)
 
 pub index-open : (f : List ℕ) (z : Sizes) (r : Opened) → Booted f z → r ≡ index_of z (run_of f z) → r ≡ open_of f
 index-open f z r b e = e ∙ sym (open-index f (sound-boot b))
 
-pub refused-open : (f : List ℕ) (j : Opened) (r : Refusal) → j ≡ boot_of f → j ≡ Refused r → j ≡ open_of f
-refused-open f j r e h = h ∙ sym (open-refused f (sym e ∙ h))
-
 -- the two returns of `judged`
-pub judged-refused : (f row : List ℕ) (j : Opened) (r : Refusal) → j ≡ boot_of f → j ≡ Refused r → Judged f row j
-judged-refused f row j r e h = record { is = refused-open f j r e h; runs = λ z o. absurd (let x : ◌≡◌ {A = ℕ} 0 1 = cc in omega arith) }
+pub judged-refused : (f row : List ℕ) (j : Opened) {r : Refusal} → j ≡ Err r → boot_of f ≡ Err r → Judged f row j
+judged-refused f row j e h = record { is = e ∙ sym (open-refused f h); runs = λ z o. absurd (err≢ok (sym e ∙ o)) }
 
 pub judged-row : (f row : List ℕ) (z : Sizes) (r : Opened) → Booted f z → Runs f z row z.u → r ≡ index_of z (run_of f z) → Judged f row r
 judged-row f row z r b h e =

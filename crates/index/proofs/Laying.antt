@@ -17,16 +17,6 @@ use Rattle.index.specs.Judging.{Shows, Lodged}
 
 -- ---- the records of one run
 
-pub lodged-none : (ws : List ℕ) (a : Run) → a.last ≡ 0 → Lodged ws ws a
-lodged-none ws a h =
-    record {
-      clear = λ l x m n. absurd (omega arith);
-      marked = λ l x m n. absurd (omega arith);
-      kept = λ x k. k;
-      below = λ x l k. k;
-      above = λ x l k. k;
-    }
-
 pub lodged : (ws vs : List ℕ) (a : Run) → Took ws vs a.first (a.last + 1) → Lodged ws vs a
 lodged ws vs a t =
     record {

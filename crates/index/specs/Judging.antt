@@ -1,11 +1,10 @@
 -- What the passes over the entries keep, and what they find.
-use Rattle.std.specs.Prelude.{ℕ, ◌*◌, ◌/◌, ◌+◌, ◌≤◌, ◌<◌, ◌≡◌, List, length}
+use Rattle.std.specs.Prelude.{ℕ, ◌*◌, ◌/◌, ◌+◌, ◌≤◌, ◌<◌, ◌≡◌, List, length, Ok}
 use Rattle.lent.specs.Least.{None}
 use Rattle.marks.specs.Marks.{mark_of}
 use Rattle.paper.specs.declared.sizes.Sizes.{Sizes}
 use Rattle.paper.specs.declared.sizes.Run.{Run}
-use Rattle.paper.specs.declared.answer.Opened.{Opened}
-use Rattle.paper.specs.declared.answer.Opened.TheVariants.{Opens}
+use Rattle.paper.specs.Answers.{Opened}
 use Rattle.paper.specs.Index.{run_of, shared_at, index_of, open_of, Booted}
 use Rattle.entries.specs.Row.{Runs, Fits, Bare, Holder}
 
@@ -76,4 +75,4 @@ pub record Looked (f : List ℕ) (z : Sizes) (row ws : List ℕ) (r : Opened) : 
 -- the file is judged, and where it opens the row holds its runs
 pub record Judged (f row : List ℕ) (r : Opened) : Type 0 where
   pub is : r ≡ open_of f
-  pub runs : (z : Sizes) → r ≡ Opens z → Runs f z row z.u
+  pub runs : (z : Sizes) → r ≡ Ok z → Runs f z row z.u

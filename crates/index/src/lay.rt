@@ -6,29 +6,25 @@ ghost use Rattle.paper.specs.Index.{run_of, row_run};
 ghost use Rattle.entries.specs.Row.{Fits};
 ghost use Rattle.index.specs.Judging.{Decoded, JudgedTo, Reach, Shows, Lodged};
 
+use entries::file::File;
 use paper::sizes::{Run, Sizes};
 
 // Marks the records of a run, or answers that one of them was marked.
+#[inline(always)]
 fn lodge(a: Run, marks: &mut [u64]) -> bool
     requires { (a.first ≤ a.last) × (a.last ≤ 1000000) × (a.last / 64 < length marks.old) }
     ensures { result ≡ true → Lodged marks.old marks.new a }
 {
-    let first = a.first;
-    let last = a.last;
-    if last == 0 {
-        return true;
-    }
-    marks::take_run(marks, first, last)
+    a.last == 0 || marks::take_run(marks, a.first, a.last)
 }
 
-// The run is in order and ends at record `top` or before it.
-fn well(a: Run, top: usize) -> bool
-    ensures { result ≡ true → (a.first ≤ a.last) × (a.last ≤ top) }
+// The same of a run that is tried first: it is in order and ends at record `top` or before it.
+#[inline(always)]
+fn lodge_to(a: Run, top: usize, marks: &mut [u64]) -> bool
+    requires { (top ≤ 1000000) × (top / 64 < length marks.old) }
+    ensures { result ≡ true → (a.first ≤ a.last) × (a.last ≤ top) × Lodged marks.old marks.new a }
 {
-    if a.last < a.first {
-        return false;
-    }
-    a.last <= top
+    a.first <= a.last && a.last <= top && lodge(a, marks)
 }
 
 // Marks the records of the first `j` slots of the row, or answers that fewer meet no mark: the marks are then of no use.
@@ -38,47 +34,34 @@ fn lay_row(row: &[u32], z: Sizes, j: usize, marks: &mut [u64]) -> usize
     requires reach { Reach z marks.old × Shows marks.old z.n (row_run row.now) 0 }
     ensures { (result ≤ j) × (j ≤ result → Shows marks.new z.n (row_run row.now) j) }
 {
-    let mut i = 0;
-    while i < j {
+    for i in 0..j {
         let a = entries::row::run_in(row, i + 1);
         if !lodge(a, &mut *marks) {
             return i;
         }
-        i += 1;
     }
-    i
+    j
 }
 
 // Goes on from slot `j` through a file of the current form.
-fn lay_on(file: &[u8], z: Sizes, j: usize, row: &mut [u32], marks: &mut [u64]) -> usize
-    requires decoded { Decoded file.now z row.old j × (z.version ≡ 1) }
-    requires fits { Fits z (run_of file.now z) j }
-    requires reach { Reach z marks.old × Shows marks.old z.n (run_of file.now z) j }
-    ensures judged_to { JudgedTo file.now z row.new result }
-    ensures shows { z.u ≤ result → Shows marks.new z.n (run_of file.now z) z.u }
+fn lay_on(file: File, j: usize, row: &mut [u32], marks: &mut [u64]) -> usize
+    requires decoded { Decoded file.bytes.now file.z row.old j × (file.z.version ≡ 1) }
+    requires fits { Fits file.z (run_of file.bytes.now file.z) j }
+    requires reach { Reach file.z marks.old × Shows marks.old file.z.n (run_of file.bytes.now file.z) j }
+    ensures judged_to { JudgedTo file.entry.bytes.now file.entry.z row.new result }
+    ensures shows { file.entry.z.u ≤ result → Shows marks.new file.entry.z.n (run_of file.entry.bytes.now file.entry.z) file.entry.z.u }
 {
-    let u = z.u;
-    let top = z.n + z.d;
+    let u = file.z.u;
+    let top = file.z.n + file.z.d;
     let mut i = j;
     while i < u {
-        let a = entries::row::put_current(file, z, i + 1, &mut *row);
-        if !well(a, top) {
+        let a = file.put_current(i + 1, &mut *row);
+        if !lodge_to(a, top, &mut *marks) {
             return i;
         }
-        if !lodge(a, &mut *marks) {
-            return i;
-        }
-        i = super::skip::skip(file, z, a, i + 1, &mut *row);
+        i = super::skip::skip(file, a, i + 1, &mut *row);
     }
     i
-}
-
-// The run is in order and ends in the file.
-fn ends_in(a: Run, z: Sizes) -> bool
-    requires { Ranged z }
-    ensures { result ≡ true → (a.first ≤ a.last) × (a.last ≤ z.n + z.d) }
-{
-    well(a, z.n + z.d)
 }
 
 // Goes on from slot `j` through the row, which holds every slot in use.
@@ -90,61 +73,57 @@ pub fn lay_rest(row: &[u32], z: Sizes, j: usize, marks: &mut [u64]) -> usize
     ensures shows { z.u ≤ result → Shows marks.new z.n (row_run row.now) z.u }
 {
     let u = z.u;
-    let mut i = j;
-    while i < u {
+    let top = z.n + z.d;
+    for i in j..u {
         let a = entries::row::run_in(row, i + 1);
-        if !ends_in(a, z) {
+        if !lodge_to(a, top, &mut *marks) {
             return i;
         }
-        if !lodge(a, &mut *marks) {
-            return i;
-        }
-        i += 1;
     }
-    i
+    u
 }
 
 // Of an old file the row is filled first: to ask for the form in `lay_on`, slot by slot, would cost the current form 8 in 100.
-fn lay_old(file: &[u8], z: Sizes, j: usize, row: &mut [u32], marks: &mut [u64]) -> usize
-    requires decoded { Decoded file.now z row.old j }
-    requires fits { Fits z (run_of file.now z) j }
-    requires reach { Reach z marks.old × Shows marks.old z.n (run_of file.now z) j }
-    ensures judged_to { JudgedTo file.now z row.new result }
-    ensures shows { z.u ≤ result → Shows marks.new z.n (run_of file.now z) z.u }
+fn lay_old(file: File, j: usize, row: &mut [u32], marks: &mut [u64]) -> usize
+    requires decoded { Decoded file.bytes.now file.z row.old j }
+    requires fits { Fits file.z (run_of file.bytes.now file.z) j }
+    requires reach { Reach file.z marks.old × Shows marks.old file.z.n (run_of file.bytes.now file.z) j }
+    ensures judged_to { JudgedTo file.entry.bytes.now file.entry.z row.new result }
+    ensures shows { file.entry.z.u ≤ result → Shows marks.new file.entry.z.n (run_of file.entry.bytes.now file.entry.z) file.entry.z.u }
 {
-    entries::row::fill(file, z, j, &mut *row);
-    lay_rest(&*row, z, j, marks)
+    file.fill(j, &mut *row);
+    lay_rest(&*row, file.z, j, marks)
 }
 
 // The rest of the slots, by the form.
-fn lay_more(file: &[u8], z: Sizes, j: usize, row: &mut [u32], marks: &mut [u64]) -> usize
-    requires decoded { Decoded file.now z row.old j }
-    requires fits { Fits z (run_of file.now z) j }
-    requires reach { Reach z marks.old × Shows marks.old z.n (run_of file.now z) j }
-    ensures judged_to { JudgedTo file.now z row.new result }
-    ensures shows { z.u ≤ result → Shows marks.new z.n (run_of file.now z) z.u }
+fn lay_more(file: File, j: usize, row: &mut [u32], marks: &mut [u64]) -> usize
+    requires decoded { Decoded file.bytes.now file.z row.old j }
+    requires fits { Fits file.z (run_of file.bytes.now file.z) j }
+    requires reach { Reach file.z marks.old × Shows marks.old file.z.n (run_of file.bytes.now file.z) j }
+    ensures judged_to { JudgedTo file.entry.bytes.now file.entry.z row.new result }
+    ensures shows { file.entry.z.u ≤ result → Shows marks.new file.entry.z.n (run_of file.entry.bytes.now file.entry.z) file.entry.z.u }
 {
-    if z.version == 0 {
-        return lay_old(file, z, j, row, marks);
+    if file.z.version == 0 {
+        return lay_old(file, j, row, marks);
     }
-    lay_on(file, z, j, row, marks)
+    lay_on(file, j, row, marks)
 }
 
 // How many slots break no rule, as far as marks can tell: the first `j`, of more, rise and are decoded.
-pub fn lay(file: &[u8], z: Sizes, j: usize, row: &mut [u32], marks: &mut [u64]) -> usize
-    requires decoded { Decoded file.now z row.old j }
-    requires j_lt_u { (j < z.u) × Fits z (run_of file.now z) j }
-    requires reach { Reach z marks.old × Clear marks.old }
-    ensures judged_to { JudgedTo file.now z row.new result }
-    ensures shows { z.u ≤ result → Shows marks.new z.n (run_of file.now z) z.u }
+pub fn lay(file: File, j: usize, row: &mut [u32], marks: &mut [u64]) -> usize
+    requires decoded { Decoded file.bytes.now file.z row.old j }
+    requires j_lt_u { (j < file.z.u) × Fits file.z (run_of file.bytes.now file.z) j }
+    requires reach { Reach file.z marks.old × Clear marks.old }
+    ensures judged_to { JudgedTo file.entry.bytes.now file.entry.z row.new result }
+    ensures shows { file.entry.z.u ≤ result → Shows marks.new file.entry.z.n (run_of file.entry.bytes.now file.entry.z) file.entry.z.u }
 {
-    let n = z.n;
+    let n = file.z.n;
     if !marks::take_run(&mut *marks, 0, n) {
         return 0;
     }
-    let i = lay_row(&*row, z, j, &mut *marks);
+    let i = lay_row(&*row, file.z, j, &mut *marks);
     if i < j {
         return i;
     }
-    lay_more(file, z, j, row, marks)
+    lay_more(file, j, row, marks)
 }

@@ -4,6 +4,7 @@ ghost use Rattle.paper.specs.Sizes.{Ranged};
 ghost use Rattle.paper.specs.Index.{Booted};
 ghost use Rattle.index.specs.Judging.{Still, JudgedTo};
 
+use entries::file::File;
 use paper::sizes::{Run, Sizes};
 
 pub fn higher(a: usize, b: usize) -> usize
@@ -40,21 +41,20 @@ fn within(j: usize, top: usize, z: Sizes) -> usize
 }
 
 // How many slots, from the first on, are decoded and break no rule since they rise. The last record is tried once, on the highest.
-pub fn rise(file: &[u8], z: Sizes, row: &mut [u32]) -> usize
-    requires booted { Booted file.now z }
-    requires u_in_bounds { 2 * z.u ≤ length row.old }
-    ensures { JudgedTo file.now z row.new result }
+pub fn rise(file: File, row: &mut [u32]) -> usize
+    requires u_in_bounds { 2 * file.z.u ≤ length row.old }
+    ensures { JudgedTo file.entry.bytes.now file.entry.z row.new result }
 {
-    let u = z.u;
-    let mut top = z.n;
+    let u = file.z.u;
+    let mut top = file.z.n;
     let mut i = 0;
     while i < u {
-        let a = entries::row::put_run(file, z, i + 1, &mut *row);
+        let a = file.put_run(i + 1, &mut *row);
         if !still(a, top) {
-            return within(i, top, z);
+            return within(i, top, file.z);
         }
         top = higher(top, a.last);
-        i = super::skip::skip(file, z, a, i + 1, &mut *row);
+        i = super::skip::skip(file, a, i + 1, &mut *row);
     }
-    within(i, top, z)
+    within(i, top, file.z)
 }

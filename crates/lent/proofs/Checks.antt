@@ -1,5 +1,7 @@
 -- The laws of checks in a row: what is known where none fires, which one fires, and what the answer says of them.
-use Rattle.std.proofs.Common.{◌≡◌, ℕ, Bool, true, false, List, [], ◌∷◌, ◌++◌, refl, ap, arith}
+use Rattle.std.proofs.Common.{◌≡◌, ℕ, Bool, true, false, List, [], ◌∷◌, ◌++◌, Result, Ok, Err, refl, sym, ap, ◌∙◌, arith}
+use Rattle.std.specs.Result.{IsErrAnd}
+use Rattle.std.proofs.lemmas.Result.{err_from_is_err_and}
 use Rattle.lent.specs.Checks.{Check, check, Fired, clear, fires, fired, answer, judge}
 
 module _ {R : Type 0} where
@@ -79,3 +81,25 @@ module _ {R : Type 0} where
   judge-append refuse [] ds a = refl
   judge-append refuse (check true r ∷ cs) ds a = refl
   judge-append refuse (check false r ∷ cs) ds a = judge-append refuse cs ds a
+
+-- a value or the refusal, as code answers it: it says which, and which one
+module _ {A R : Type 0} where
+  pub err≢ok : {r : R} {a : A} → ◌≡◌ {A = Result A R} (Err r) (Ok a) → ⊥
+  err≢ok e = let z : ◌≡◌ {A = ℕ} 0 1 = cc in omega arith
+
+  pub err-same : {q r : R} → ◌≡◌ {A = Result A R} (Err q) (Err r) → q ≡ r
+  err-same e = cc
+
+  -- what a `?` hands on is the refusal as it came
+  pub passed-on : (x : Result A R) {r : R} → IsErrAnd x (λ y. y ≡ r) → x ≡ Err r
+  passed-on x h = let p = err_from_is_err_and x h in p.1 ∙ ap Err p.2
+
+  pub ok-same : {a b : A} → ◌≡◌ {A = Result A R} (Ok a) (Ok b) → a ≡ b
+  ok-same e = cc
+
+  module _ (cs : List (Check R)) (a : A) where
+    pub judged-ok : {b : A} → judge Err cs (Ok a) ≡ Ok b → (fired cs ≡ clear) × (a ≡ b)
+    judged-ok {b} e = let p = judge-passed Err cs (Ok a) (Ok b) (λ r. err≢ok) e in (p.0, ok-same p.1)
+
+    pub judged-err : {r : R} → judge Err cs (Ok a) ≡ Err r → fired cs ≡ fires r
+    judged-err {r} e = judge-refused Err cs (Ok a) r (λ p q. err-same) (λ x. err≢ok (sym x)) e

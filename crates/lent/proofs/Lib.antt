@@ -1,7 +1,9 @@
 pub mod Lists
 pub mod Leasts
+pub mod Founds
 pub mod Greatests
 pub mod Checks
+pub mod Results
 pub mod Writes
 pub mod Parts
 pub mod Sames

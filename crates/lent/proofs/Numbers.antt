@@ -157,6 +157,13 @@ pub number-four : (s : List ℕ) (at : ℕ)
 unfolding number value
 number-four s at = simp add-zero (omega arith)
 
+pub number-eight : (s : List ℕ) (at : ℕ)
+    → number big 8 s at
+    ≡ get_or s at 0 * 72057594037927936 + get_or s (at + 1) 0 * 281474976710656 + get_or s (at + 2) 0 * 1099511627776 + get_or s (at + 3) 0 * 4294967296
+    + get_or s (at + 4) 0 * 16777216 + get_or s (at + 5) 0 * 65536 + get_or s (at + 6) 0 * 256 + get_or s (at + 7) 0
+unfolding number value
+number-eight s at = simp add-zero (omega arith)
+
 -- of bytes below 256
 module _ (s : List ℕ) (low : (i : ℕ) → get_or s i 0 < 256) (at : ℕ) where
   pub two-small : number big 2 s at < 65536

@@ -1,5 +1,5 @@
 -- The laws of a part, of two runs with the same bytes in a range, and what a change does to both.
-use Rattle.std.proofs.Common.{◌≡◌, ℕ, zero, suc, ◌+◌, ◌-◌, ◌<◌, ◌≤◌, min, ltb, List, [], ◌∷◌, ◌++◌, length, get_or, take, drop, sym, ap, ◌∙◌, ⊎_elim, add_assoc, sub-eq-zero_of_le, arith, length-append, length-drop, drop_of_length-le, length-take, length-take-le, get_or-drop, take_all, get_or-take, get_or-append-add, ext_get_or, drop_at, le-ltb, lt-ltb}
+use Rattle.std.proofs.Common.{◌≡◌, ℕ, zero, suc, ◌+◌, ◌-◌, ◌<◌, ◌≤◌, min, ltb, ◌⊎◌, List, [], ◌∷◌, ◌++◌, length, get_or, take, drop, sym, ap, ◌∙◌, inl, inr, ⊎_elim, add_assoc, sub-eq-zero_of_le, arith, length-append, length-drop, drop_of_length-le, length-take, length-take-le, get_or-drop, take_all, get_or-take, get_or-append-add, ext_get_or, drop_at, le-ltb, lt-ltb}
 use native.Mathlib.Nat.{add-sub_cancel_left, zero-sub, sub-zero, suc-sub-suc}
 use lib.ListN.{get_or-append, get_or-eq_default}
 use lib.Seq.{take-nil, take-append_seam}
@@ -30,18 +30,27 @@ pub part-rest : (from to : ℕ) (s : List ℕ) → length s ≤ to → part from
 part-rest from to s h =
     take_all (length s - from) (drop from s) (simp length-drop (omega arith)) ∙ sym (take_all (to - from) (drop from s) (simp length-drop (omega arith)))
 
+-- a part up to there, or up to the end where that comes first
+pub part-cut : (from to : ℕ) (s : List ℕ) → part from (min to (length s)) s ≡ part from to s
+part-cut from to s =
+    ⊎_elim (λ (h : to < length s). ap (λ (n : ℕ). part from n s) (omega arith))
+    (λ (h : length s ≤ to). ap (λ (n : ℕ). part from n s) (omega arith) ∙ part-rest from to s h) (lt-or-ge to (length s))
+
+pub part-empty : (from to : ℕ) (s : List ℕ) → min to (length s) ≤ from → part from to s ≡ []
+part-empty from to s h = sym (part-cut from to s) ∙ part_none from (min to (length s)) s h
+
 -- at which byte it begins, and the address of that byte
 pub place-some : (from to : ℕ) (s : List ℕ) → from < length s → from < to → place_in from to s ≡ from
 unfolding place_in
 place-some from to s h k = rw (lt-ltb from (length s) h, lt-ltb from to k)
 
-pub place-past : (from to : ℕ) (s : List ℕ) → length s ≤ from → place_in from to s ≡ 0
-unfolding place_in
-place-past from to s h = rw (le-ltb from (length s) h)
+min-le : {a b n : ℕ} → min a b ≤ n → (a ≤ n) ⊎ (b ≤ n)
+min-le {a} {b} {n} h = ⊎_elim (λ (k : n < a). inr (omega arith)) (λ (k : a ≤ n). inl k) (lt-or-ge n a)
 
-pub place_none : (from to : ℕ) (s : List ℕ) → to ≤ from → place_in from to s ≡ 0
+pub place-empty : (from to : ℕ) (s : List ℕ) → min to (length s) ≤ from → place_in from to s ≡ 0
 unfolding place_in
-place_none from to s h = rw (le-ltb from to h, also-false (ltb from (length s)))
+place-empty from to s h =
+    ⊎_elim (λ (k : to ≤ from). rw (le-ltb from to k, also-false (ltb from (length s)))) (λ (k : length s ≤ from). rw (le-ltb from (length s) k)) (min-le h)
 
 pub part_placed : (from to : ℕ) (s : List ℕ) (i : ℕ) → i < length (part from to s) → get_or (part from to s) i 0 ≡ get_or s (place_in from to s + i) 0
 part_placed from to s i h =

@@ -1,4 +1,4 @@
-//! Whether runs hold the same bytes, or zeros. One loop compares, and one joins.
+//! Whether runs hold the same bytes, or zeros.
 ghost use Rattle.std.specs.Prelude.{◌≡◌, length};
 ghost use Rattle.lent.specs.Same.{same};
 ghost use Rattle.lent.specs.Write.{zeros, pad};
@@ -11,25 +11,21 @@ pub fn same(a: &[u8], b: &[u8]) -> bool
         return false;
     }
     let mut ok = true;
-    let mut i = 0;
-    while i < a.len() {
+    for i in 0..a.len() {
         if a[i] != b[i] {
             ok = false;
         }
-        i += 1;
     }
     ok
 }
 
-// All zeros: the bytes are joined and tried once, with no early end either.
+// All zeros: the bytes are joined and tried once. The loop has no early end, so that the compiler joins many bytes at a time: they are mostly zeros.
 pub fn all_zero(a: &[u8]) -> bool
     ensures { result ≡ same a.now (zeros (length a.now)) }
 {
     let mut met = 0u8;
-    let mut i = 0;
-    while i < a.len() {
-        met = met | a[i];
-        i += 1;
+    for x in a {
+        met |= *x;
     }
     met == 0
 }
@@ -42,11 +38,5 @@ pub fn same_padded(a: &[u8], n: usize, src: &[u8]) -> bool
     if n <= k {
         return same(a, src);
     }
-    if a.len() != n {
-        return false;
-    }
-    if same(&a[..k], src) {
-        return all_zero(&a[k..]);
-    }
-    false
+    a.len() == n && same(&a[..k], src) && all_zero(&a[k..])
 }

@@ -7,14 +7,9 @@ pub fn part(s: &[u8], from: usize, to: usize) -> &[u8]
     ensures bytes { result.now ≡ part from to s.now }
     ensures place { result.ref_ptr ≡ bytes_on (place_in from to s.now) s.entry.ref_ptr }
 {
-    if s.len() <= from {
+    let end = to.min(s.len());
+    if end <= from {
         return &s[..0];
     }
-    if to <= from {
-        return &s[..0];
-    }
-    if to <= s.len() {
-        return &s[from..to];
-    }
-    &s[from..]
+    &s[from..end]
 }

@@ -5,10 +5,7 @@ ghost use Rattle.lent.specs.Number.{Plain, be16, be32, be64, int16, widened};
 pub fn byte(s: &[u8], at: usize) -> u8
     ensures { result ≡ slice_index s.now at }
 {
-    if at < s.len() {
-        return s[at];
-    }
-    0
+    if at < s.len() { s[at] } else { 0 }
 }
 
 pub fn word16(s: &[u8], at: usize) -> u16
@@ -17,23 +14,7 @@ pub fn word16(s: &[u8], at: usize) -> u16
     if s.len() <= at {
         return 0;
     }
-    let hi = byte(s, at);
-    let lo = byte(s, at + 1);
-    (hi as u16) * 256 + (lo as u16)
-}
-
-fn wide(x: u8) -> u32
-    ensures { Plain x 256 result }
-{
-    x as u32
-}
-
-// Four bytes that are all there: the compiler makes one load of them.
-pub fn load32(s: &[u8], at: usize) -> u32
-    requires { at + 4 ≤ length s.now }
-    ensures { result ≡ be32 s.now at }
-{
-    wide(s[at]) * 16777216 + wide(s[at + 1]) * 65536 + wide(s[at + 2]) * 256 + wide(s[at + 3])
+    u16::from_be_bytes([byte(s, at), byte(s, at + 1)])
 }
 
 fn half(x: u8) -> u16
@@ -48,6 +29,21 @@ pub fn load16(s: &[u8], at: usize) -> u16
     ensures { result ≡ be16 s.now at }
 {
     half(s[at]) * 256 + half(s[at + 1])
+}
+
+fn wide(x: u8) -> u32
+    ensures { Plain x 256 result }
+{
+    x as u32
+}
+
+// Four bytes that are all there: the compiler makes one load of them. With `from_be_bytes` it does so too, but then no longer puts what calls this into the
+// loops over the index, which take 1.7 times as long.
+pub fn load32(s: &[u8], at: usize) -> u32
+    requires { at + 4 ≤ length s.now }
+    ensures { result ≡ be32 s.now at }
+{
+    wide(s[at]) * 16777216 + wide(s[at + 1]) * 65536 + wide(s[at + 2]) * 256 + wide(s[at + 3])
 }
 
 pub fn word32(s: &[u8], at: usize) -> u32
@@ -80,9 +76,16 @@ pub fn load64(s: &[u8], at: usize) -> u64
     requires { at + 8 ≤ length s.now }
     ensures { result ≡ be64 s.now at }
 {
-    let hi = load32(s, at);
-    let lo = load32(s, at + 4);
-    (hi as u64) * 4294967296 + (lo as u64)
+    u64::from_be_bytes([
+        s[at],
+        s[at + 1],
+        s[at + 2],
+        s[at + 3],
+        s[at + 4],
+        s[at + 5],
+        s[at + 6],
+        s[at + 7],
+    ])
 }
 
 // A 32-bit number that counts or indexes.
@@ -92,28 +95,17 @@ pub fn size(s: &[u8], at: usize) -> usize
     word32(s, at) as usize
 }
 
-// The integer that 16 bits stand for.
-fn signed(v: u16) -> i16
-    ensures { result ≡ int16 v }
-{
-    if v < 32768 {
-        return v as i16;
-    }
-    (v - 32768) as i16 + (-32768)
-}
-
-// The 32 bits that stand for the same integer. There and back by 32,768 is what the compiler knows for the extension of a sign.
+// The 32 bits that stand for the same integer.
 pub fn widened(v: u16) -> u32
     ensures { result ≡ widened v }
 {
-    let turned = (v as u32 + 32768) % 65536;
-    std::num::wrapping_add_u32(turned, 4294934528)
+    i32::from(v.cast_signed()).cast_unsigned()
 }
 
 pub fn int16(s: &[u8], at: usize) -> i16
     ensures { result ≡ int16 (be16 s.now at) }
 {
-    signed(word16(s, at))
+    word16(s, at).cast_signed()
 }
 
 // The integer of two bytes that are all there.
@@ -121,5 +113,5 @@ pub fn load_int16(s: &[u8], at: usize) -> i16
     requires { at + 2 ≤ length s.now }
     ensures { result ≡ int16 (be16 s.now at) }
 {
-    signed(load16(s, at))
+    load16(s, at).cast_signed()
 }

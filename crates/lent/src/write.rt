@@ -1,27 +1,15 @@
-//! Bytes set at a place. Every contract says the whole of the run afterwards; one loop copies and one stores zeros.
+//! Bytes set at a place. Every contract says the whole of the run afterwards.
 ghost use Rattle.std.specs.Prelude.{◌≡◌, ◌+◌, ◌≤◌, length};
 ghost use Rattle.lent.specs.Number.{big, bytes};
 ghost use Rattle.lent.specs.Write.{write, zeros, pad};
 
-// All of `dst` becomes `src`.
-pub fn copy(dst: &mut [u8], src: &[u8])
+// All of `dst` becomes `src`. The compiler makes this loop one over many bytes; a call of the library's copy takes longer for the bytes of a scan.
+fn copy(dst: &mut [u8], src: &[u8])
     requires { length dst.old ≡ length src.now }
     ensures { dst.new ≡ src.now }
 {
-    let mut i = 0;
-    while i < src.len() {
+    for i in 0..src.len() {
         dst[i] = src[i];
-        i += 1;
-    }
-}
-
-pub fn zero(dst: &mut [u8])
-    ensures { dst.new ≡ zeros (length dst.old) }
-{
-    let mut i = 0;
-    while i < dst.len() {
-        dst[i] = 0;
-        i += 1;
     }
 }
 
@@ -38,30 +26,23 @@ pub fn zero_to(file: &mut [u8], at: usize, n: usize)
     ensures { file.new ≡ write file.old at (zeros n) }
 {
     let e = at + n;
-    zero(&mut file[at..e]);
+    file[at..e].fill(0);
 }
 
 // A 16-bit number, the highest byte first.
-pub fn put16(file: &mut [u8], at: usize, x: u16)
+pub fn put16(file: &mut [u8], at: usize, half: u16)
     requires { at + 2 ≤ length file.old }
-    ensures { file.new ≡ write file.old at (bytes big 2 x) }
+    ensures { file.new ≡ write file.old at (bytes big 2 half) }
 {
-    let b = [(x / 256 % 256) as u8, (x % 256) as u8];
-    copy_to(file, at, &b);
+    copy_to(file, at, &half.to_be_bytes());
 }
 
 // A 32-bit number, the highest byte first.
-pub fn put32(file: &mut [u8], at: usize, x: u32)
+pub fn put32(file: &mut [u8], at: usize, word: u32)
     requires { at + 4 ≤ length file.old }
-    ensures { file.new ≡ write file.old at (bytes big 4 x) }
+    ensures { file.new ≡ write file.old at (bytes big 4 word) }
 {
-    let b = [
-        (x / 16777216 % 256) as u8,
-        (x / 65536 % 256) as u8,
-        (x / 256 % 256) as u8,
-        (x % 256) as u8,
-    ];
-    copy_to(file, at, &b);
+    copy_to(file, at, &word.to_be_bytes());
 }
 
 // All of `src`, and zeros after it up to `n` bytes.

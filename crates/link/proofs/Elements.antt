@@ -16,12 +16,6 @@ use Rattle.paper.proofs.Linking.{shifted-word, element-after-join}
 
 -- ---- numbers
 
-pub width-old : (v : ℕ) → v ≡ 0 → width_of v ≡ 2
-width-old v e = sym (by_old v 2 4 e)
-
-pub width-current : (v : ℕ) → (v ≡ 0 → ⊥) → width_of v ≡ 4
-width-current v h = sym (by-current v 2 4 h)
-
 pub more_old : (v x b : ℕ) {y r : ℕ} → v ≡ 0 → b < 256 → y ≡ x % 256 * 256 + b → r ≡ widened y → r ≡ more_of v x b
 unfolding more_of
 more_old v x b {y} e l h k = k ∙ ap widened (let q : y ≡ (x * 256 + b) % 65536 = omega arith in q) ∙ by_old v _ _ e

@@ -1,35 +1,29 @@
 -- A piece: where the index ends, and link and row after its bytes.
+use Rattle.std.specs.Prelude.{Ok, Err}
 use Prim.Native.Nat.{ℕ, ◌+◌, ◌-◌, ◌*◌, ◌≤◌, ◌<◌, min}
-use mathlib.Core.Path.{◌≡◌, refl, sym, ◌∙◌, ap, subst}
-use mathlib.Core.Bool.{false}
+use mathlib.Core.Path.{◌≡◌, sym, ◌∙◌, ap, subst}
 use mathlib.Core.List.{List, []}
 use mathlib.Core.Logic.{⊎_elim}
 use native.Mathlib.Omega.{arith}
-use native.Mathlib.Nat.{add-zero, sub-zero, sub-eq-zero_of_le, mul-le-mul}
-use lib.Dec.{eqb}
+use native.Mathlib.Nat.{sub-zero, sub-eq-zero_of_le, mul-le-mul}
 use lib.ListN.{length, take, drop, length-take, length-drop}
 use lib.Seq.{take_all, take-length}
-use borrow.Author.Tests.{lt-ltb, le-ltb, ne_eqb, not-false}
+use borrow.Author.Tests.{le-ltb, not-false}
 use Rattle.lent.specs.Part.{part}
-use Rattle.lent.specs.Write.{write}
 use Rattle.lent.proofs.Lists.{lt-or-ge}
 use Rattle.lent.proofs.Checks.{clear-all, judge-clear, judge-fires}
 use Rattle.paper.specs.declared.sizes.Sizes.{Sizes}
 use Rattle.paper.specs.declared.refusal.Refusal.{Refusal}
 use Rattle.paper.specs.declared.refusal.Refusal.TheVariants.{TooSmall}
-use Rattle.paper.specs.declared.answer.Taken.{Taken}
-use Rattle.paper.specs.declared.answer.Taken.TheVariants.{Accepted, Refused}
-use Rattle.paper.specs.declared.answer.Opened.{Opened}
-use Rattle.paper.specs.declared.answer.Opened.TheVariants as opened
+use Rattle.paper.specs.Answers.{Opened, Linked, taken_in}
 use Rattle.paper.specs.declared.link.Link.{Link}
-use Rattle.paper.specs.declared.link.Linked.{Linked}
 use Rattle.paper.specs.Refusals.{taken_says}
 use Rattle.paper.specs.Sizes.{by_form, version_of, word_at, sizes_of, size_checks, Ranged}
 use Rattle.paper.specs.Index.{sized_of}
-use Rattle.paper.specs.Link.{fresh_link, head_of, headed, index_end, end_after, body_of, row_after, took_link, took_row, begin_of, take_of, take_row}
+use Rattle.paper.specs.Link.{head_of, headed, index_end, end_after, body_of, row_after, took_link, took_row, take_of, take_row, link_in}
 use Rattle.paper.proofs.Forms.{by_old, by-current}
 use Rattle.paper.proofs.Opening.{opens-clear, refused-fires, range-facts}
-use Rattle.paper.proofs.Linking.{elements-most, row-after-none, head_short, head-min, took-headless, took-row-headless, took-still, took-row-still, begin-short, begin-long, take_short, take_long, take-row-short, take-row-long}
+use Rattle.paper.proofs.Linking.{elements-most, row-after-none, head_short, head-min, took-headless, took-row-headless, took-still, took-row-still, take_short, take_long, take-row-short, take-row-long}
 use Rattle.link.specs.Taking.{counted, shaping, shape_of}
 use Rattle.link.proofs.Slotting.{shape_row}
 
@@ -39,40 +33,30 @@ head-none k p l =
 
 -- ---- the answers of begin and take
 
--- an answer and a link that were put together
-abbrev Answers : Taken → Link → Linked → Type 0
-Answers t k is = (taken_says t ≡ taken_says is.answer) × (k ≡ is.link)
-
-put-together : (t : Taken) (k m : Link) (is : Linked) → is ≡ record { answer = t; link = m } → k ≡ m → Answers t k is
-put-together t k m is e h = (ap (λ (x : Linked). taken_says x.answer) (sym e), h ∙ ap (λ (x : Linked). x.link) (sym e))
-
-module _ (len : ℕ) (row : List ℕ) (k : Link) where
-  pub begun-short : length row < 8192 → k ≡ fresh_link 0 → Answers (Refused TooSmall) k (begin_of len row)
-  begun-short h e = put-together (Refused TooSmall) k (fresh_link 0) (begin_of len row) (begin-short len row h) e
-
-  pub begun-long : 8192 ≤ length row → k ≡ fresh_link len → Answers Accepted k (begin_of len row)
-  begun-long h e = put-together Accepted k (fresh_link len) (begin_of len row) (begin-long len row h) e
+-- what the calls promise of an answer
+pub says : (k : Link) {x is : Linked} → x ≡ is → (taken_says (taken_in x) ≡ taken_says (taken_in is)) × (link_in k x ≡ link_in k is)
+says k e = (ap (λ (l : Linked). taken_says (taken_in l)) e, ap (link_in k) e)
 
 module _ (k : Link) (p row : List ℕ) where
-  pub taken-short : length row < 8192 → Answers (Refused TooSmall) k (take_of k p row) × (row ≡ take_row k p row)
-  taken-short h = (put-together (Refused TooSmall) k k (take_of k p row) (take_short k p row h) refl, sym (take-row-short k p row h))
+  pub taken-short : length row < 8192 → (Err TooSmall ≡ take_of k p row) × (row ≡ take_row k p row)
+  taken-short h = (sym (take_short k p row h), sym (take-row-short k p row h))
 
   -- all has come that counts
-  pub taken-full : 8192 ≤ length row → 32 ≤ k.came → k.ends ≤ k.came → Answers Accepted k (take_of k p row) × (row ≡ take_row k p row)
+  pub taken-full : 8192 ≤ length row → 32 ≤ k.came → k.ends ≤ k.came → (Ok k ≡ take_of k p row) × (row ≡ take_row k p row)
   taken-full h a b =
       let q : take (k.ends - k.came) p ≡ [] = ap (λ (n : ℕ). take n p) (sub-eq-zero_of_le b) in
       let s : head_of k p ≡ 0 = head-none k p a in (
-        put-together Accepted k (took_link k p) (take_of k p row) (take_long k p row h) (sym (took-still k p s q)),
+        sym (take_long k p row h ∙ ap Ok (took-still k p s q)),
         sym (take-row-long k p row h ∙ took-row-still k p s q row h),
       )
 
-  pub taken-long : 8192 ≤ length row → (d : Link) (next : List ℕ) → d ≡ took_link k p → next ≡ took_row k p row → Answers Accepted d (take_of k p row) × (next ≡ take_row k p row)
-  taken-long h d next a b = (put-together Accepted d (took_link k p) (take_of k p row) (take_long k p row h) a, b ∙ sym (take-row-long k p row h))
+  pub taken-long : 8192 ≤ length row → (d : Link) (next : List ℕ) → d ≡ took_link k p → next ≡ took_row k p row → (Ok d ≡ take_of k p row) × (next ≡ take_row k p row)
+  taken-long h d next a b = (ap Ok a ∙ sym (take_long k p row h), b ∙ sym (take-row-long k p row h))
 
 -- ---- where the index ends
 
 -- sizes that were judged are in their ranges, so that N x L is no large number
-pub sized_range : (len : ℕ) (z : Sizes) {j : Opened} {y : Sizes} → j ≡ sized_of len z → j ≡ opened.Opens y → Ranged y
+pub sized_range : (len : ℕ) (z : Sizes) {j : Opened} {y : Sizes} → j ≡ sized_of len z → j ≡ Ok y → Ranged y
 unfolding sized_of
 sized_range len z {j} {y} e h =
     let p = opens-clear (size_checks len z) z y (sym e ∙ h) in
@@ -81,28 +65,25 @@ sized_range len z {j} {y} e h =
 pub head_bytes : (z : Sizes) → Ranged z → z.n * z.l ≤ 2101248
 head_bytes z R = let p : z.n * z.l ≤ 513 * 4096 = mul-le-mul {n₁ = z.n} {n₂ = 513} R.shape.n_high R.shape.l_high in p
 
-index-refused : (len : ℕ) (z : Sizes) (r : Refusal) → sized_of len z ≡ opened.Refused r → index_end len z ≡ 0
+index-refused : (len : ℕ) (z : Sizes) (r : Refusal) → sized_of len z ≡ Err r → index_end len z ≡ 0
 unfolding index_end sized_of
 index-refused len z r e = judge-fires (λ (q : Refusal). 0) (size_checks len z) (z.n * z.l) r (refused-fires (size_checks len z) z r e)
 
-index-opens : (len : ℕ) (z y : Sizes) → sized_of len z ≡ opened.Opens y → index_end len z ≡ y.n * y.l
+index-opens : (len : ℕ) (z y : Sizes) → sized_of len z ≡ Ok y → index_end len z ≡ y.n * y.l
 unfolding index_end sized_of
 index-opens len z y e =
     let p = opens-clear (size_checks len z) z y e in
     judge-clear (λ (q : Refusal). 0) (size_checks len z) (z.n * z.l) p.0 ∙ ap (λ (x : Sizes). x.n * x.l) p.1
 
 module _ (len came : ℕ) (boot : List ℕ) where
-  pub end-early : came < 32 → 0 ≡ end_after len came boot
-  end-early h = rw (lt-ltb _ _ h)
-
   module _ (all : 32 ≤ came) {z : Sizes} (s : z ≡ sizes_of boot) {j : Opened} (e : j ≡ sized_of len z) where
     known : end_after len came boot ≡ index_end len z
     known = rw (le-ltb _ _ all) (ap (index_end len) (sym s))
 
-    pub end_refused : (r : Refusal) → j ≡ opened.Refused r → 0 ≡ end_after len came boot
+    pub end_refused : (r : Refusal) → j ≡ Err r → 0 ≡ end_after len came boot
     end_refused r h = sym (known ∙ index-refused len z r (sym e ∙ h))
 
-    pub end-opens : (y : Sizes) → j ≡ opened.Opens y → y.n * y.l ≡ end_after len came boot
+    pub end-opens : (y : Sizes) → j ≡ Ok y → y.n * y.l ≡ end_after len came boot
     end-opens y h = sym (known ∙ index-opens len z y (sym e ∙ h))
 
 -- ---- link and row after a piece
@@ -121,12 +102,6 @@ pub head-room : (k : Link) (p : List ℕ) → 0 < head_of k p → k.came + head_
 head-room k p h =
     ⊎_elim (λ (s : k.span < 512). absurd (omega (arith, head_short k p s))) (λ (s : 512 ≤ k.span). omega (arith, head-min k p s)) (lt-or-ge k.span 512)
 
-pub headed-is : (k : Link) (p : List ℕ) (h came ends : ℕ) (boot bytes : List ℕ) → h ≡ head_of k p → 0 < h → boot ≡ write k.boot k.came bytes → bytes ≡ part 0 h p
-    → came ≡ k.came + h → ends ≡ end_after k.span came boot → ◌≡◌ {A = Link} (record { span = k.span; came = came; ends = ends; boot = boot }) (headed k p)
-headed-is k p h came ends boot bytes e s b f c d =
-    let q : eqb (head_of k p) 0 ≡ false = ne_eqb (head_of k p) 0 (λ x. omega arith) in
-    rw (d, c, b, f, e, q, sub-zero)
-
 -- the sizes that are asked for, in either form
 pub shape-old : (f : List ℕ) {n l m : ℕ} → version_of f ≡ 0 → n ≡ word_at (version_of f) f 0 0 → l ≡ word_at (version_of f) f 0 2 → m ≡ word_at (version_of f) f 0 3
     → shaping n l m 0 ≡ shape_of (sizes_of f)
@@ -139,10 +114,8 @@ shape-current f v e1 e2 e3 = let q : ◌≡◌ {A = ℕ} 1 (by_form (version_of 
 -- bytes after the first 32
 module _ (boot : List ℕ) (came ends : ℕ) (p row : List ℕ) where
   -- no byte counts
-  pub body-none : 8192 ≤ length row → ends ≤ came → (came ≡ came + length (counted came ends p)) × (row ≡ row_after (sizes_of boot) came (counted came ends p) row)
-  body-none w h =
-      let q : ends - came ≡ 0 = omega arith in
-      (rw (q, add-zero came), rw q (sym (row-after-none (sizes_of boot) came row (omega (arith, elements-most (sizes_of boot))))))
+  pub body-none : 8192 ≤ length row → ends ≤ came → row ≡ row_after (sizes_of boot) came (counted came ends p) row
+  body-none w h = let q : ends - came ≡ 0 = omega arith in rw q (sym (row-after-none (sizes_of boot) came row (omega (arith, elements-most (sizes_of boot)))))
 
   -- the first n do
   pub body-some : (z : Sizes) (n : ℕ) → z ≡ shape_of (sizes_of boot) → n ≡ min (length p) (ends - came) → (bytes : List ℕ) → bytes ≡ part 0 n p → (next : List ℕ)

@@ -1,11 +1,11 @@
 -- The slots, one after the other: what a slot's numbers are after the bytes, and what the row is once all have been gone through.
 use Prim.Native.Nat.{ℕ, ◌+◌, ◌-◌, ◌*◌, ◌/◌, ◌%◌, ◌≤◌, ◌<◌, max, min}
-use mathlib.Core.Path.{◌≡◌, refl, sym, ◌∙◌, ap, subst}
+use mathlib.Core.Path.{◌≡◌, refl, sym, ◌∙◌, subst}
 use mathlib.Core.Bool.{false}
 use mathlib.Core.List.{List, [], ◌∷◌}
 use mathlib.Core.Logic.{◌≢◌, ◌⊎◌, inl, inr, ⊎_elim}
 use native.Mathlib.Omega.{arith}
-use native.Mathlib.Nat.{mul-le-mul, mul-le-mul_right, div-mul-le_self, div-add-mod', mod-lt, add-mul, one-mul}
+use native.Mathlib.Nat.{mul-le-mul_right}
 use lib.ListN.{length, take, get_or, set, length-set, length-take}
 use lib.Seq.{take_all, get_or-set_same, get_or-set_other}
 use borrow.Author.Tests.{eq-eqb, ne_eqb}
@@ -16,7 +16,7 @@ use Rattle.paper.specs.declared.sizes.Sizes.{Sizes}
 use Rattle.paper.specs.Sizes.{by_form, word_at, capacity_of, shaped, Shaped}
 use Rattle.paper.specs.Link.{more_of, shifted, width_of, number_at, element_after, elements_of, row_after}
 use Rattle.paper.proofs.Linking.{width-most, elements-shaped, row-after-is, element-after-none}
-use Rattle.link.specs.Taking.{shape_of, Lent, Inside, Put, Went, TakenTo, Passed}
+use Rattle.link.specs.Taking.{shape_of, home_at, Put, Went, TakenTo, Passed}
 use Rattle.link.proofs.Elements.{number-first, number-last, element-passed, element-ahead, element-word, element-more, element-later, element-done, element-all}
 
 -- an element rests on what stood there, and on nothing else of the row
@@ -26,27 +26,15 @@ element-same z at bytes row cur e h = rw h
 
 -- ---- one slot
 
--- where its entry begins is no large number
-pub slot_small : (z : Sizes) (i : ℕ) → Shaped z → i ≤ capacity_of z → i * z.m ≤ 16777216
-slot_small z i S l =
-    let h : z.m ≤ 4096 = omega (arith, S.m_high, S.l_high) in
-    let p : i * z.m ≤ 4096 * 4096 = mul-le-mul {n₁ = i} {n₂ = 4096} (omega (arith, S.slots)) h in p
-
-pub inside-small : (z : Sizes) (at : ℕ) (bytes row : List ℕ) (i : ℕ) → Inside z at bytes row i → i * z.m ≤ 16777216
-inside-small z at bytes row i I = slot_small z i I.lent.shape (omega (arith, I.slot))
-
-pub went-small : (z : Sizes) (at : ℕ) (bytes row next : List ℕ) (i j : ℕ) → Shaped z → Went z at bytes row next i j → j ≤ capacity_of z → j * z.m ≤ 16777216
-went-small z at bytes row next i j S W l = slot_small z j S l
-
-module _ (z : Sizes) (at : ℕ) (bytes row₀ : List ℕ) (i : ℕ) (I : Inside z at bytes row₀ i) where
+module _ (z : Sizes) (at : ℕ) (bytes row₀ : List ℕ) (i : ℕ) (S : Shaped z) (b : (8192 ≤ length row₀) × (i < capacity_of z)) where
   abbrev home : ℕ
-  home = z.l + i * z.m
+  home = home_at z i
 
   abbrev w : ℕ
   w = width_of z.version
 
   in_row : 2 * i + 1 < length row₀
-  in_row = omega (arith, I.slot, I.lent.wide, I.lent.shape.slots)
+  in_row = omega (arith, b.0, b.1, S.slots)
 
   -- before the first of its bytes
   pub cut-none : (p : ℕ) → p ≡ max home at → Put z at (take (p - at) bytes) row₀ row₀ i
@@ -197,7 +185,7 @@ module _ (z : Sizes) (at : ℕ) (bytes row : List ℕ) where
         }
 
     pub to_end : (next : List ℕ) (i : ℕ) → 8192 ≤ length row → TakenTo z at bytes row next i → i ≤ capacity_of z
-        → (i < capacity_of z → at + length bytes ≤ z.l + i * z.m) → next ≡ row_after z at bytes row
+        → (i < capacity_of z → at + length bytes ≤ home_at z i) → next ≡ row_after z at bytes row
     to_end next i w T m h =
         let n : elements_of z ≡ 2 * capacity_of z = elements-shaped z S in
         row-after-is z at bytes row next T.as_long (omega (arith, S.slots)) (λ e k. front e (omega arith) (lt-or-ge e (2 * i))) (λ e k. T.rest e (omega arith))
@@ -221,9 +209,6 @@ module _ (z : Sizes) (at : ℕ) (bytes row : List ℕ) where
       before e h (inl a) = W.below e a ∙ T.before e a
       before e h (inr a) = W.here e a h ∙ element-same z at bytes row cur e (T.rest e a)
 
-  pub went-none : (i : ℕ) → Went z at bytes row row i i
-  went-none i = record { as_long = refl; low = omega arith; here = λ e a b. absurd (omega arith); below = λ e a. refl; above = λ e a. refl }
-
   pub went-more : (cur next : List ℕ) (i j : ℕ) → Went z at bytes row cur i j → Put z at bytes cur next j → Went z at bytes row next i (j + 1)
   went-more cur next i j W P =
       record {
@@ -241,32 +226,3 @@ module _ (z : Sizes) (at : ℕ) (bytes row : List ℕ) where
       here e a h (inl b) c = P.below e b ∙ W.here e a b
       here e a h (inr b) (inl c) = let q : e ≡ 2 * j = omega arith in last e b (rw q P.first)
       here e a h (inr b) (inr c) = let q : e ≡ 2 * j + 1 = omega arith in last e b (rw q P.last)
-
--- on the way the row stays as long as it was
-pub lent-went : (z : Sizes) (at : ℕ) (bytes row next : List ℕ) (i j : ℕ) → Went z at bytes row next i j → Lent z at bytes row → Lent z at bytes next
-lent-went z at bytes row next i j W L = record { shape = L.shape; wide = omega (arith, L.wide, W.as_long); fits = L.fits }
-
--- the entry after the next begins a whole entry later
-pub next-home : (z : Sizes) (i : ℕ) → z.l + (i + 1) * z.m ≡ z.l + i * z.m + z.m
-next-home z i = rw (add-mul i 1 z.m, one-mul z.m) (omega arith)
-
-pub later-home : (z : Sizes) (i j : ℕ) → i ≤ j → z.l + i * z.m ≤ z.l + j * z.m
-later-home z i j h = omega (arith, mul-le-mul_right {m = i} {n = j} z.m h)
-
--- the slots before the one in which byte `at` lies
-pub passed_none : (z : Sizes) (at r : ℕ) → r ≡ 0 → Passed z at r
-passed_none z at r e j h = absurd (omega arith)
-
--- and the one in which it lies ends after it
-pub passed-next : (z : Sizes) (at r c : ℕ) → Shaped z → z.l ≤ at → r ≡ min ((at - z.l) / z.m) c → r < c → at < z.l + r * z.m + z.m
-passed-next z at r c S lo e h =
-    let q : (at - z.l) / z.m ≡ r = omega arith in
-    let d = div-add-mod' (at - z.l) z.m in
-    let m : (at - z.l) % z.m < z.m = mod-lt (at - z.l) (omega (arith, S.m_low)) in
-    omega (arith, ap (λ (x : ℕ). x * z.m) q, d, m)
-
-pub passed-some : (z : Sizes) (at r c : ℕ) → z.l ≤ at → r ≡ min ((at - z.l) / z.m) c → Passed z at r
-passed-some z at r c lo e j h =
-    let q : ℕ = (at - z.l) / z.m in
-    let a : (j + 1) * z.m ≤ q * z.m = mul-le-mul_right {m = j + 1} {n = q} z.m (omega arith) in
-    omega (arith, a, div-mul-le_self (at - z.l) z.m)

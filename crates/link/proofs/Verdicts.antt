@@ -1,4 +1,5 @@
 -- What finish answers once the bootstrap's first 32 bytes came, one law for each return.
+use Rattle.std.specs.Prelude.{Ok, Err}
 use Prim.Native.Nat.{ℕ, ◌*◌, ◌≤◌, ◌<◌}
 use mathlib.Core.Path.{◌≡◌, sym, ◌∙◌, ap}
 use mathlib.Core.List.{List}
@@ -9,8 +10,7 @@ use Rattle.lent.proofs.Checks.{judge-clear, judge-fires}
 use Rattle.paper.specs.declared.sizes.Sizes.{Sizes}
 use Rattle.paper.specs.declared.refusal.Refusal.{Refusal}
 use Rattle.paper.specs.declared.refusal.Refusal.TheVariants.{NotAllCame}
-use Rattle.paper.specs.declared.answer.Opened.{Opened}
-use Rattle.paper.specs.declared.answer.Opened.TheVariants.{Opens, Refused}
+use Rattle.paper.specs.Answers.{Opened}
 use Rattle.paper.specs.declared.link.Link.{Link}
 use Rattle.paper.specs.Sizes.{sizes_of, size_checks}
 use Rattle.paper.specs.Index.{row_run, sized_of, index_of}
@@ -24,28 +24,28 @@ module _ (k : Link) (row : List ℕ) (w : 8192 ≤ length row) (long : 512 ≤ k
 
   -- what is asked of the index
   abbrev rest : Sizes → Opened
-  rest y = judge Refused (came_checks k y (row_run row)) (Opens y)
+  rest y = judge Err (came_checks k y (row_run row)) (Ok y)
 
-  finish-sized : finish_of k row ≡ judge Refused (size_checks k.span stated) (rest stated)
+  finish-sized : finish_of k row ≡ judge Err (size_checks k.span stated) (rest stated)
   finish-sized = finish-boot k row w came ∙ rw (le-ltb k.span 512 long)
 
   module _ (z : Sizes) (s : z ≡ sizes_of k.boot) (j : Opened) (e : j ≡ sized_of k.span z) where
     judged : sized_of k.span stated ≡ j
     judged = sym (e ∙ ap (sized_of k.span) s)
 
-    pub verdict-refused : (r : Refusal) → j ≡ Refused r → j ≡ finish_of k row
+    pub verdict-refused : (r : Refusal) → j ≡ Err r → j ≡ finish_of k row
     unfolding sized_of
     verdict-refused r h =
-        h ∙ sym (finish-sized ∙ judge-fires Refused (size_checks k.span stated) (rest stated) r (refused-fires (size_checks k.span stated) stated r (judged ∙ h)))
+        h ∙ sym (finish-sized ∙ judge-fires Err (size_checks k.span stated) (rest stated) r (refused-fires (size_checks k.span stated) stated r (judged ∙ h)))
 
-    module _ (y : Sizes) (h : j ≡ Opens y) where
+    module _ (y : Sizes) (h : j ≡ Ok y) where
       finish-rest : finish_of k row ≡ rest y
       unfolding sized_of
       finish-rest =
           let p = opens-clear (size_checks k.span stated) stated y (judged ∙ h) in
-          finish-sized ∙ judge-clear Refused (size_checks k.span stated) (rest stated) p.0 ∙ ap rest p.1
+          finish-sized ∙ judge-clear Err (size_checks k.span stated) (rest stated) p.0 ∙ ap rest p.1
 
-      pub verdict-early : k.came < y.n * y.l → Refused NotAllCame ≡ finish_of k row
+      pub verdict-early : k.came < y.n * y.l → Err NotAllCame ≡ finish_of k row
       verdict-early l = sym (finish-rest ∙ rw (lt-ltb k.came (y.n * y.l) l))
 
       pub verdict-index : (r : Opened) → y.n * y.l ≤ k.came → r ≡ index_of y (row_run row) → r ≡ finish_of k row

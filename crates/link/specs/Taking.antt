@@ -1,7 +1,7 @@
 -- The parts in which a piece is taken.
 use Rattle.std.specs.Prelude.{ℕ, ◌+◌, ◌-◌, ◌*◌, ◌≤◌, ◌<◌, ◌≡◌, List, length, take, get_or}
 use Rattle.paper.specs.declared.sizes.Sizes.{Sizes}
-use Rattle.paper.specs.Sizes.{by_form, capacity_of, Shaped}
+use Rattle.paper.specs.Sizes.{by_form}
 use Rattle.paper.specs.Link.{element_after}
 
 -- ---- the bytes after the bootstrap's first 32
@@ -19,16 +19,9 @@ shape_of z = shaping z.n z.l z.m (by_form z.version 0 1)
 
 -- ---- slot by slot, slots counted from 0
 
--- the sizes are in their ranges, the row is long enough, and the places are numbers
-pub record Lent (z : Sizes) (at : ℕ) (bytes row : List ℕ) : Type 0 where
-  pub shape : Shaped z
-  pub wide : 8192 ≤ length row
-  pub fits : at + length bytes < 18446744073709551616
-
--- slot i is one of the index
-pub record Inside (z : Sizes) (at : ℕ) (bytes row : List ℕ) (i : ℕ) : Type 0 where
-  pub lent : Lent z at bytes row
-  pub slot : i < capacity_of z
+-- the byte of the file at which the entry of slot i begins
+abbrev pub home_at : Sizes → ℕ → ℕ
+home_at z i = z.l + i * z.m
 
 -- from row to next the two elements of slot i took the bytes, and every other stayed
 pub record Put (z : Sizes) (at : ℕ) (bytes row next : List ℕ) (i : ℕ) : Type 0 where
@@ -54,4 +47,4 @@ pub record TakenTo (z : Sizes) (at : ℕ) (bytes row next : List ℕ) (i : ℕ) 
 
 -- the entries of the slots before slot i end at byte `at` or before it
 abbrev pub Passed : Sizes → ℕ → ℕ → Type 0
-Passed z at i = (j : ℕ) → j < i → z.l + j * z.m + z.m ≤ at
+Passed z at i = (j : ℕ) → j < i → home_at z j + z.m ≤ at

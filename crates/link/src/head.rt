@@ -1,55 +1,21 @@
 //! The bootstrap's first 32 bytes, which a link keeps.
-ghost use Rattle.std.specs.Prelude.{◌≡◌, ◌<◌, min};
+ghost use Rattle.std.specs.Prelude.{◌≡◌, ◌<◌};
 ghost use Rattle.paper.specs.Sizes.{version_of, sizes_of};
 ghost use Rattle.paper.specs.Link.{head_of, headed, end_after};
 ghost use Rattle.link.specs.Taking.{shaping, shape_of};
 
-use paper::answer::Opened;
 use paper::link::Link;
 use paper::sizes::Sizes;
-
-pub fn smaller(a: usize, b: usize) -> usize
-    ensures { result ≡ min a b }
-{
-    if b < a {
-        return b;
-    }
-    a
-}
 
 // How many bytes of the piece are among them.
 pub fn head_len(k: Link, piece: &[u8]) -> usize
     ensures { result ≡ head_of k piece.now }
 {
     if k.span < 512 {
-        return 0;
+        0
+    } else {
+        32usize.saturating_sub(k.came).min(piece.len())
     }
-    if 32 <= k.came {
-        return 0;
-    }
-    smaller(32 - k.came, piece.len())
-}
-
-// What take asks of the sizes, N, L, M and the form, in either form. The rest is not decoded. (The numbers that both forms begin with are loaded last in
-// the one and first in the other: else the compiler would load their bytes one by one, before it is asked which form it is.)
-fn old_shape(boot: &[u8; 32]) -> Sizes
-    requires { version_of boot.now ≡ 0 }
-    ensures { result ≡ shape_of (sizes_of boot.now) }
-{
-    let n = lent::read::widened(lent::read::load16(boot, 0));
-    let l = lent::read::widened(lent::read::load16(boot, 4));
-    let m = lent::read::widened(lent::read::load16(boot, 6));
-    shape(n, l, m, 0)
-}
-
-fn current_shape(boot: &[u8; 32]) -> Sizes
-    requires { version_of boot.now ≡ 0 → ⊥ }
-    ensures { result ≡ shape_of (sizes_of boot.now) }
-{
-    let m = lent::read::load32(boot, 12);
-    let l = lent::read::load32(boot, 8);
-    let n = lent::read::load32(boot, 0);
-    shape(n, l, m, 1)
 }
 
 fn shape(n: u32, l: u32, m: u32, version: usize) -> Sizes
@@ -67,13 +33,22 @@ fn shape(n: u32, l: u32, m: u32, version: usize) -> Sizes
     }
 }
 
+// What take asks of the sizes, N, L, M and the form, in either form. The rest is not decoded. (The numbers that both forms begin with are loaded last in
+// the one and first in the other: else the compiler would load their bytes one by one, before it is asked which form it is.)
 pub fn shape_at(boot: &[u8; 32]) -> Sizes
     ensures { result ≡ shape_of (sizes_of boot.now) }
 {
     if lent::read::load32(boot, 28) == 0 {
-        return old_shape(boot);
+        let n = lent::read::widened(lent::read::load16(boot, 0));
+        let l = lent::read::widened(lent::read::load16(boot, 4));
+        let m = lent::read::widened(lent::read::load16(boot, 6));
+        shape(n, l, m, 0)
+    } else {
+        let m = lent::read::load32(boot, 12);
+        let l = lent::read::load32(boot, 8);
+        let n = lent::read::load32(boot, 0);
+        shape(n, l, m, 1)
     }
-    current_shape(boot)
 }
 
 // The byte at which the index ends, once the 32 have come and break no rule over the given length.
@@ -84,8 +59,7 @@ fn index_end(length: usize, came: usize, boot: &[u8]) -> usize
         return 0;
     }
     let z = bootstrap::words::sizes_at(boot);
-    let j = bootstrap::judge::sized(length, z);
-    let Opened::Opens(y) = j else {
+    let Ok(y) = bootstrap::judge::sized(length, z) else {
         return 0;
     };
     y.n * y.l
@@ -101,9 +75,9 @@ pub fn headed(k: Link, piece: &[u8], h: usize) -> Link
     let came = k.came + h;
     let ends = index_end(k.span, came, &boot);
     Link {
-        span: k.span,
         came,
         ends,
         boot,
+        ..k
     }
 }

@@ -4,12 +4,13 @@
 ghost use Rattle.std.specs.Prelude.{◌≡◌, true, ◌+◌, ◌≤◌, ◌<◌, length};
 ghost use Rattle.paper.specs.Sizes.{sizes_of};
 ghost use Rattle.paper.specs.Refusals.{taken_says, opened_says};
-ghost use Rattle.paper.specs.Link.{fresh_link, head_of, row_after, took_link, took_row, begin_of, take_of, take_row, finish_of};
+ghost use Rattle.paper.specs.Answers.{taken_in};
+ghost use Rattle.paper.specs.Link.{fresh_link, head_of, row_after, took_link, took_row, begin_of, take_of, take_row, link_in, finish_of};
 ghost use Rattle.link.specs.Taking.{counted};
 
-use paper::answer::{Opened, Taken};
-use paper::link::{Link, Linked};
+use paper::link::Link;
 use paper::refusal::Refusal;
+use paper::sizes::Sizes;
 
 mod head;
 mod number;
@@ -22,30 +23,24 @@ fn fresh(length: usize) -> Link
 {
     Link {
         span: length,
-        came: 0,
-        ends: 0,
-        boot: [0u8; 32],
+        ..Link::ZEROS
     }
 }
 
-// 02, 2026-07: the length, of a file that is to be judged as it comes. 17 where the row has fewer than 8,192 elements: the link is then one of length 0.
-pub fn begin(length: usize, row: &[u32]) -> Linked
-    ensures answer { taken_says result.answer ≡ taken_says (begin_of length row.now).answer }
-    ensures link { result.link ≡ (begin_of length row.now).link }
+// 02, 2026-07: the length, of a file that is to be judged as it comes. 17 where the row has fewer than 8,192 elements.
+pub fn begin(length: usize, row: &[u32]) -> Result<Link, Refusal>
+    ensures answer { taken_says (taken_in result) ≡ taken_says (taken_in (begin_of length row.now)) }
+    ensures link { link_in (fresh_link 0) result ≡ link_in (fresh_link 0) (begin_of length row.now) }
 {
     if row.len() < 8192 {
-        return Linked {
-            answer: Taken::Refused(Refusal::TooSmall),
-            link: fresh(0),
-        };
-    }
-    Linked {
-        answer: Taken::Accepted,
-        link: fresh(length),
+        Err(Refusal::TooSmall)
+    } else {
+        Ok(fresh(length))
     }
 }
 
-// Bytes that follow the bootstrap's first 32: those before the end of the index go to the row. Answers how many have come then.
+// Bytes that follow the bootstrap's first 32: those before the end of the index go to the row. Answers how many have come then. (Where it is handed
+// the link in place of what it asks of it, a byte of the index takes 1.08 times as long.)
 fn body(boot: &[u8; 32], came: usize, ends: usize, piece: &[u8], row: &mut [u32]) -> usize
     requires { 8192 ≤ length row.old }
     ensures value { result ≡ came + length (counted came ends piece.now) }
@@ -54,7 +49,7 @@ fn body(boot: &[u8; 32], came: usize, ends: usize, piece: &[u8], row: &mut [u32]
     if ends <= came {
         return came;
     }
-    let n = head::smaller(piece.len(), ends - came);
+    let n = piece.len().min(ends - came);
     let z = head::shape_at(boot);
     slots::lay(z, came, lent::part::part(piece, 0, n), row);
     came + n
@@ -97,39 +92,26 @@ fn took(k: Link, piece: &[u8], row: &mut [u32]) -> Link
 fn full(k: Link) -> bool
     ensures { result ≡ true → (32 ≤ k.came) × (k.ends ≤ k.came) }
 {
-    if k.came < 32 {
-        return false;
-    }
-    k.ends <= k.came
+    32 <= k.came && k.ends <= k.came
 }
 
 // The next bytes of the file, as many as there are; 17 where the row is too short, the link and the row staying as they were.
-pub fn take(link: Link, piece: &[u8], row: &mut [u32]) -> Linked
-    ensures answer { taken_says result.answer ≡ taken_says (take_of link piece.now row.old).answer }
-    ensures link { result.link ≡ (take_of link piece.now row.old).link }
+pub fn take(link: Link, piece: &[u8], row: &mut [u32]) -> Result<Link, Refusal>
+    ensures answer { taken_says (taken_in result) ≡ taken_says (taken_in (take_of link piece.now row.old)) }
+    ensures link { link_in link result ≡ link_in link (take_of link piece.now row.old) }
     ensures row { row.new ≡ take_row link piece.now row.old }
 {
     if row.len() < 8192 {
-        return Linked {
-            answer: Taken::Refused(Refusal::TooSmall),
-            link,
-        };
+        return Err(Refusal::TooSmall);
     }
     if full(link) {
-        return Linked {
-            answer: Taken::Accepted,
-            link,
-        };
+        return Ok(link);
     }
-    let k = took(link, piece, row);
-    Linked {
-        answer: Taken::Accepted,
-        link: k,
-    }
+    Ok(took(link, piece, row))
 }
 
 // What open says of the file, as far as enough of it came: 17, 1, 20, 3 to 5, 20 and then 6 to 8, or the sizes.
-pub fn finish(link: Link, row: &[u32]) -> Opened
+pub fn finish(link: Link, row: &[u32]) -> Result<Sizes, Refusal>
     ensures { opened_says result ≡ opened_says (finish_of link row.now) }
 {
     verdict::verdict(link, row)

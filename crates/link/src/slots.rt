@@ -1,18 +1,21 @@
 //! The index's bytes laid into the row, slot by slot: an entry that lies whole in the piece is loaded, one that is cut is shifted in byte by byte.
-ghost use Rattle.std.specs.Prelude.{◌≡◌, ◌+◌, ◌*◌, ◌≤◌, ◌<◌, max, length};
+ghost use Rattle.std.specs.Prelude.{◌≡◌, ℕ, ◌+◌, ◌≤◌, ◌<◌, ◌*◌, length, slice_index};
 ghost use Rattle.paper.specs.Sizes.{capacity_of, Shaped};
 ghost use Rattle.paper.specs.Link.{row_after};
-ghost use Rattle.link.specs.Taking.{Lent, Inside, Put, Went, Passed};
+ghost use Rattle.link.specs.Taking.{home_at, Put, Went, Passed};
 
 use paper::sizes::Sizes;
 
-fn larger(a: usize, b: usize) -> usize
-    ensures { result ≡ max a b }
-{
-    if a < b {
-        return b;
-    }
-    a
+// Bytes that stand in the file from byte `at` on, of a file whose index has places for its slots. Slots are counted from 0.
+#[derive(Clone, Copy)]
+struct Piece<'a> {
+    z: Sizes,
+    at: usize,
+    bytes: &'a [u8],
+    ghost shape: { Shaped z },
+    // Of the bytes of a slice that a struct holds this is not known by itself.
+    ghost small: { (i : ℕ) → slice_index bytes.now i < 256 },
+    ghost fits: { at + length bytes.now < 18446744073709551616 },
 }
 
 // The element that byte `p` of the file belongs to: the entry's first number, or the one that begins at `next`.
@@ -20,105 +23,95 @@ fn element(i: usize, p: usize, next: usize) -> usize
     requires { i ≤ 4096 }
     ensures { (result ≤ 2 * i + 1) × (p < next → result ≡ 2 * i) × (next ≤ p → result ≡ 2 * i + 1) }
 {
-    if p < next {
-        return 2 * i;
-    }
-    2 * i + 1
+    if p < next { 2 * i } else { 2 * i + 1 }
 }
 
-// Those bytes of the entry's two numbers that are in the piece, one by one.
-fn cut(z: Sizes, at: usize, bytes: &[u8], i: usize, row: &mut [u32])
-    requires { Inside z at bytes.now row.old i }
-    ensures { Put z at bytes.now row.old row.new i }
-{
-    let home = z.l + i * z.m;
-    let next = home + super::number::width(z.version);
-    let stop = super::head::smaller(next + super::number::width(z.version), at + bytes.len());
-    let mut p = larger(home, at);
-    while p < stop {
-        let e = element(i, p, next);
-        row[e] = super::number::more(z.version, row[e], bytes[p - at]);
-        p += 1;
+impl<'a> Piece<'a> {
+    // The byte of the file after the piece.
+    fn end(&self) -> usize
+        ensures { result ≡ self.now.at + length self.now.bytes.now }
+    {
+        self.at + self.bytes.len()
     }
-}
 
-// Both numbers at once.
-fn whole(z: Sizes, at: usize, bytes: &[u8], i: usize, row: &mut [u32])
-    requires inside { Inside z at bytes.now row.old i }
-    requires at_bound { (at ≤ z.l + i * z.m) × (z.l + i * z.m + 8 ≤ at + length bytes.now) }
-    ensures { Put z at bytes.now row.old row.new i }
-{
-    let from = z.l + i * z.m - at;
-    let to = 2 * i;
-    if z.version == 0 {
-        row[to] = lent::read::widened(lent::read::load16(bytes, from));
-        row[to + 1] = lent::read::widened(lent::read::load16(bytes, from + 2));
-        return;
+    // The byte of the file at which the entry of slot `i` begins.
+    fn home(&self, i: usize) -> usize
+        requires { i ≤ capacity_of self.now.z }
+        ensures { result ≡ home_at self.now.z i }
+    {
+        self.z.l + i * self.z.m
     }
-    row[to] = lent::read::load32(bytes, from);
-    row[to + 1] = lent::read::load32(bytes, from + 4);
-}
 
-// Slot `i` where its entry has begun before the piece: what the piece has of its numbers. Answers the first slot that begins in it.
-fn begun(z: Sizes, at: usize, bytes: &[u8], i: usize, row: &mut [u32]) -> usize
-    requires { Lent z at bytes.now row.old × (i ≤ capacity_of z) × (i < capacity_of z → at < z.l + i * z.m + z.m) }
-    ensures went { Went z at bytes.now row.old row.new i result }
-    ensures upper_bound { (result ≤ capacity_of z) × (result < capacity_of z → at ≤ z.l + result * z.m) }
-{
-    if z.capacity() <= i {
-        return i;
+    // Those bytes of the entry's two numbers that are in the piece, one by one.
+    fn cut(&self, i: usize, row: &mut [u32])
+        requires { (8192 ≤ length row.old) × (i < capacity_of self.now.z) }
+        ensures { Put self.now.z self.now.at self.now.bytes.now row.old row.new i }
+    {
+        let home = self.home(i);
+        let width = super::number::width(self.z.version);
+        let next = home + width;
+        for p in home.max(self.at)..(next + width).min(self.end()) {
+            let e = element(i, p, next);
+            row[e] = super::number::more(self.z.version, row[e], self.bytes[p - self.at]);
+        }
     }
-    if at <= z.l + i * z.m {
-        return i;
-    }
-    cut(z, at, bytes, i, row);
-    i + 1
-}
 
-// The slots from `from` on whose numbers lie whole in the piece. Answers the first of which they do not.
-fn wholes(z: Sizes, at: usize, bytes: &[u8], from: usize, row: &mut [u32]) -> usize
-    requires { Lent z at bytes.now row.old × (from ≤ capacity_of z) × (from < capacity_of z → at ≤ z.l + from * z.m) }
-    ensures went { Went z at bytes.now row.old row.new from result }
-    ensures upper_bound { (result ≤ capacity_of z) × (result < capacity_of z → at + length bytes.now < z.l + result * z.m + 8) }
-{
-    let slots = z.capacity();
-    let end = at + bytes.len();
-    let mut i = from;
-    while i < slots {
-        if end < z.l + i * z.m + 8 {
+    // Both numbers at once.
+    fn whole(&self, i: usize, row: &mut [u32])
+        requires inside { (8192 ≤ length row.old) × (i < capacity_of self.now.z) }
+        requires at_bound { (self.now.at ≤ home_at self.now.z i) × (home_at self.now.z i + 8 ≤ self.now.at + length self.now.bytes.now) }
+        ensures { Put self.now.z self.now.at self.now.bytes.now row.old row.new i }
+    {
+        let from = self.home(i) - self.at;
+        let to = 2 * i;
+        if self.z.version == 0 {
+            row[to] = lent::read::widened(lent::read::load16(self.bytes, from));
+            row[to + 1] = lent::read::widened(lent::read::load16(self.bytes, from + 2));
+            return;
+        }
+        row[to] = lent::read::load32(self.bytes, from);
+        row[to + 1] = lent::read::load32(self.bytes, from + 4);
+    }
+
+    // Slot `i` where its entry begins before byte `edge` of the file: what the piece has of its numbers. Answers the first slot whose entry does not.
+    fn before(&self, edge: usize, i: usize, row: &mut [u32]) -> usize
+        requires { (8192 ≤ length row.old) × (i ≤ capacity_of self.now.z) × (i < capacity_of self.now.z → edge < home_at self.now.z (i + 1)) }
+        ensures went { Went self.now.z self.now.at self.now.bytes.now row.old row.new i result }
+        ensures upper_bound { (result ≤ capacity_of self.now.z) × (result < capacity_of self.now.z → edge ≤ home_at self.now.z result) }
+    {
+        if self.z.capacity() <= i || edge <= self.home(i) {
             return i;
         }
-        whole(z, at, bytes, i, &mut *row);
-        i += 1;
+        self.cut(i, row);
+        i + 1
     }
-    i
-}
 
-// Slot `i` where its entry begins in the piece and does not end there. Answers the first slot of which the piece has nothing.
-fn ended(z: Sizes, at: usize, bytes: &[u8], i: usize, row: &mut [u32]) -> usize
-    requires { Lent z at bytes.now row.old × (i ≤ capacity_of z) × (i < capacity_of z → at + length bytes.now < z.l + i * z.m + 8) }
-    ensures went { Went z at bytes.now row.old row.new i result }
-    ensures upper_bound { (result ≤ capacity_of z) × (result < capacity_of z → at + length bytes.now ≤ z.l + result * z.m) }
-{
-    if z.capacity() <= i {
-        return i;
+    // The slots from `from` on whose numbers lie whole in the piece. Answers the first of which they do not.
+    fn wholes(&self, from: usize, row: &mut [u32]) -> usize
+        requires { (8192 ≤ length row.old) × (from ≤ capacity_of self.now.z) × (from < capacity_of self.now.z → self.now.at ≤ home_at self.now.z from) }
+        ensures went { Went self.now.z self.now.at self.now.bytes.now row.old row.new from result }
+        ensures upper_bound { (result ≤ capacity_of self.now.z) × (result < capacity_of self.now.z → self.now.at + length self.now.bytes.now < home_at self.now.z result + 8) }
+    {
+        let slots = self.z.capacity();
+        let end = self.end();
+        for i in from..slots {
+            if end < self.home(i) + 8 {
+                return i;
+            }
+            self.whole(i, &mut *row);
+        }
+        slots
     }
-    if at + bytes.len() <= z.l + i * z.m {
-        return i;
-    }
-    cut(z, at, bytes, i, row);
-    i + 1
-}
 
-// The slot, counted from 0, in whose entry byte `at` lies: those before it have nothing in the piece.
-fn first_slot(z: Sizes, at: usize) -> usize
-    requires { Shaped z }
-    ensures { (result ≤ capacity_of z) × Passed z at result × (result < capacity_of z → at < z.l + result * z.m + z.m) }
-{
-    if at < z.l {
-        return 0;
+    // The slot in whose entry byte `at` lies: those before it have nothing in the piece.
+    fn first_slot(&self) -> usize
+        ensures { (result ≤ capacity_of self.now.z) × Passed self.now.z self.now.at result × (result < capacity_of self.now.z → self.now.at < home_at self.now.z (result + 1)) }
+    {
+        if self.at < self.z.l {
+            return 0;
+        }
+        ((self.at - self.z.l) / self.z.m).min(self.z.capacity())
     }
-    super::head::smaller((at - z.l) / z.m, z.capacity())
 }
 
 // The row after bytes that stand in the file from byte `at` on.
@@ -129,8 +122,8 @@ pub fn lay(z: Sizes, at: usize, bytes: &[u8], row: &mut [u32])
     if !bootstrap::ranges::shaped(z) {
         return;
     }
-    let from = first_slot(z, at);
-    let first = begun(z, at, bytes, from, &mut *row);
-    let next = wholes(z, at, bytes, first, &mut *row);
-    ended(z, at, bytes, next, row);
+    let piece = Piece { z, at, bytes };
+    let first = piece.before(at, piece.first_slot(), &mut *row);
+    let next = piece.wholes(first, &mut *row);
+    piece.before(piece.end(), next, row);
 }

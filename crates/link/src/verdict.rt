@@ -2,38 +2,35 @@
 ghost use Rattle.std.specs.Prelude.{◌≡◌, ◌≤◌, length};
 ghost use Rattle.paper.specs.Link.{finish_of};
 
-use paper::answer::Opened;
 use paper::link::Link;
 use paper::refusal::Refusal;
+use paper::sizes::Sizes;
 
 // Of a link to which the bootstrap's first 32 bytes came.
-fn booted(k: Link, row: &[u32]) -> Opened
+fn booted(k: Link, row: &[u32]) -> Result<Sizes, Refusal>
     requires { (8192 ≤ length row.now) × (512 ≤ k.span) × (32 ≤ k.came) }
     ensures { result ≡ finish_of k row.now }
 {
     let b = k.boot;
     let z = bootstrap::words::sizes_at(&b);
-    let j = bootstrap::judge::sized(k.span, z);
-    let Opened::Opens(y) = j else {
-        return j;
-    };
+    let y = bootstrap::judge::sized(k.span, z)?;
     if k.came < y.n * y.l {
-        return Opened::Refused(Refusal::NotAllCame);
+        return Err(Refusal::NotAllCame);
     }
     runs::judge(row, y)
 }
 
-pub fn verdict(k: Link, row: &[u32]) -> Opened
+pub fn verdict(k: Link, row: &[u32]) -> Result<Sizes, Refusal>
     ensures { result ≡ finish_of k row.now }
 {
     if row.len() < 8192 {
-        return Opened::Refused(Refusal::TooSmall);
+        return Err(Refusal::TooSmall);
     }
     if k.span < 512 {
-        return Opened::Refused(Refusal::TooShort);
+        return Err(Refusal::TooShort);
     }
     if k.came < 32 {
-        return Opened::Refused(Refusal::NotAllCame);
+        return Err(Refusal::NotAllCame);
     }
     booted(k, row)
 }

@@ -5,26 +5,24 @@ use Rattle.std.proofs.Math.Seq.{take-append-add, take-append_seam}
 use Rattle.std.specs.Io.{ReadsAtMost}
 use Rattle.std.specs.Io.KnownBytes.{Consumes, IsAtEnd, ReadConsumes}
 use borrow.Rule.Slice.PartMut.{put_mid, post_of}
-use Rattle.listing.specs.declared.shell.Input.{Input}
-use Rattle.listing.specs.declared.shell.Input.TheVariants.{Read}
 use Rattle.listing.specs.Input.{input_of, Within, Took}
 
 -- as many bytes as there is room for
-pub told-within : {E : Type 0} (got : Result ℕ E) (room : List ℕ) {r : Input} → r ≡ input_of got (length room) → Within r room
+pub told-within : {E : Type 0} (got : Result ℕ E) (room : List ℕ) {r : Option ℕ} → r ≡ input_of got (length room) → Within r room
 unfolding input_of
 told-within (Ok k) room e = rw e (omega arith)
 told-within (Err x) room e = rw e tt
 
 -- and from the front of those that are left
-pub told-took : {E : Type 0} (got : Result ℕ E) (room : List ℕ) (old new : Option (List ℕ)) {r : Input} → r ≡ input_of got (length room)
+pub told-took : {E : Type 0} (got : Result ℕ E) (room : List ℕ) (old new : Option (List ℕ)) {r : Option ℕ} → r ≡ input_of got (length room)
     → ReadsAtMost got room → ReadConsumes old new got room → Took r room old new
 unfolding input_of
 told-took (Ok k) room old new e most h =
     let q : k ≡ min k (length room) = omega (arith, most.0) in
-    let P : Input → Type 0 = λ i. Took i room old new in
-    subst P (ap Read q ∙ sym e) h
+    let P : Option ℕ → Type 0 = λ i. Took i room old new in
+    subst P (ap Some q ∙ sym e) h
 told-took (Err x) room old new e most h =
-    let P : Input → Type 0 = λ i. Took i room old new in
+    let P : Option ℕ → Type 0 = λ i. Took i room old new in
     subst P (sym e) h
 
 -- nothing is taken before the first read

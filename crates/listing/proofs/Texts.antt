@@ -1,4 +1,5 @@
 -- The text from its lines, and how long it can be.
+use Rattle.std.specs.Prelude.{Ok, Err}
 use Prim.Native.Nat.{ℕ, ◌+◌, ◌≤◌}
 use mathlib.Core.Path.{◌≡◌, refl, ◌∙◌, ap, subst}
 use mathlib.Core.List.{List, [], ◌∷◌, ◌++◌, append_assoc}
@@ -12,8 +13,7 @@ use Rattle.lent.proofs.Writes.{length-write-max}
 use Rattle.paper.specs.declared.sizes.Sizes.{Sizes}
 use Rattle.paper.specs.declared.sizes.Run.{Run}
 use Rattle.paper.specs.declared.refusal.Refusal.{Refusal}
-use Rattle.paper.specs.declared.answer.Opened.{Opened}
-use Rattle.paper.specs.declared.answer.Opened.TheVariants.{Opens, Refused}
+use Rattle.paper.specs.Answers.{Opened}
 use Rattle.paper.specs.Refusals.{number_of, value_of}
 use Rattle.paper.specs.Sizes.{capacity_of, Ranged}
 use Rattle.paper.specs.Index.{run_of, row_run, Full, slots_of, open_of, Lies, Sound}
@@ -39,19 +39,19 @@ three-then : (v : List ℕ) (a : ℕ) (w : List ℕ) (b : ℕ) (x : List ℕ) (c
     → three_of v a w b x c ++ rest ≡ v ++ (decimal a ++ (w ++ (decimal b ++ (x ++ (decimal c ++ (10 ∷ rest))))))
 three-then v a w b x c rest = simp append_assoc
 
-pub text-refused : (f : List ℕ) {r : Refusal} → open_of f ≡ Refused r → refused_of r ≡ list_text f
+pub text-refused : (f : List ℕ) {r : Refusal} → open_of f ≡ Err r → refused_of r ≡ list_text f
 unfolding list_text
 text-refused f o = rw o
 
 opens-text : (f : List ℕ) (z : Sizes)
-    → head_of (capacity_of z) z.u (length (slots_of z (run_of f z))) ++ pieces_in line_for (run_of f z) z.u ≡ text_of f (Opens z)
+    → head_of (capacity_of z) z.u (length (slots_of z (run_of f z))) ++ pieces_in line_for (run_of f z) z.u ≡ text_of f (Ok z)
 unfolding slots_of
 opens-text f z =
     rw (← lines-joined (run_of f z) (slots_of z (run_of f z)))
     (three-then slots_word (capacity_of z) used_word z.u scans_word (length (slots_of z (run_of f z))) (lines_text (run_of f z) (slots_of z (run_of f z))))
 
 -- the same from a row that holds the runs
-pub text-opens : (f : List ℕ) {z : Sizes} (o : open_of f ≡ Opens z) (row : List ℕ) (rs : Runs f z row z.u)
+pub text-opens : (f : List ℕ) {z : Sizes} (o : open_of f ≡ Ok z) (row : List ℕ) (rs : Runs f z row z.u)
     {cap n : ℕ} → cap ≡ capacity_of z → n ≡ length (scans_in (row_run row) z.u)
     → head_of cap z.u n ++ pieces_in line_for (row_run row) z.u ≡ list_text f
 unfolding list_text
@@ -91,7 +91,7 @@ lies-first : (z : Sizes) (r : Run) → Lies z r → r.first ≤ z.n + z.d
 lies-first z r h =
     ⊎_elim (λ (k : Full r). omega (arith, h.order k, h.high)) (λ (k : r.first + r.last ≤ 0). omega arith) (lt-or-ge 0 (r.first + r.last))
 
-lines-short : (f : List ℕ) {z : Sizes} → open_of f ≡ Opens z → length (pieces_in line_for (run_of f z) z.u) ≤ 86016
+lines-short : (f : List ℕ) {z : Sizes} → open_of f ≡ Ok z → length (pieces_in line_for (run_of f z) z.u) ≤ 86016
 lines-short f {z} o =
     let s = open-sound o in
     let g = s.booted.ranged in
@@ -102,7 +102,7 @@ lines-short f {z} o =
         let h : Lies z (run_of f z s) = inside-all o.laid s a (omega arith) in
         line-short s (run_of f z s) (omega arith) (omega (arith, lies-first z (run_of f z s) h)) (omega (arith, h.high))
 
-pub row-short : (f : List ℕ) {z : Sizes} → open_of f ≡ Opens z → (row : List ℕ) → Runs f z row z.u → length (pieces_in line_for (row_run row) z.u) ≤ 86016
+pub row-short : (f : List ℕ) {z : Sizes} → open_of f ≡ Ok z → (row : List ℕ) → Runs f z row z.u → length (pieces_in line_for (row_run row) z.u) ≤ 86016
 row-short f {z} o row rs = rw (same-pieces line_for (row_run row) (run_of f z) z.u rs.run) (lines-short f o)
 
 -- with the head no list is longer than 90,000 bytes
@@ -111,17 +111,14 @@ unfolding list_text
 list-short f = go (open_of f) refl
   where
     go : (o : Opened) → open_of f ≡ o → length (text_of f o) ≤ 90000
-    go (Opens z) e =
+    go (Ok z) e =
         let head = head_of (capacity_of z) z.u (length (slots_of z (run_of f z))) in
         let lines = pieces_in line_for (run_of f z) z.u in
         subst (λ (t : List ℕ). length t ≤ 90000) (opens-text f z)
         (omega (arith, length-append head lines, head_short (capacity_of z) z.u (length (slots_of z (run_of f z))), lines-short f e))
-    go (Refused r) e = omega (arith, refused-short (number_of r) (value_of r))
+    go (Err r) e = omega (arith, refused-short (number_of r) (value_of r))
 
 -- ---- what was put is the text
-
-pub refused-put : (r : Refusal) {l m : List ℕ} {k n v : ℕ} → n ≡ number_of r → v ≡ value_of r → Put l 0 (two_of refused_word n slot_word v) m k → Put l 0 (refused_of r) m k
-refused-put r p q h = rw (p, q) at h
 
 -- the text lies within what it was put into
 pub text-within : (t l m : List ℕ) (r : ℕ) → r ≡ length t → m ≡ write l 0 t → r ≤ length m

@@ -9,7 +9,6 @@ ghost use Rattle.look.specs.Put.{Put};
 ghost use Rattle.look.specs.Rows.{piece_if, pieces_in};
 ghost use Rattle.listing.specs.Text.{line_for, refused_of};
 
-use paper::answer::Opened;
 use paper::refusal::Refusal;
 use paper::sizes::Run;
 
@@ -34,11 +33,9 @@ fn lines(row: &[u32], u: usize, out: &mut [u8], from: usize) -> usize
     ensures { Put out.old from (pieces_in line_for (row_run row.now) u) out.new result }
 {
     let mut at = from;
-    let mut i = 0;
-    while i < u {
+    for i in 0..u {
         let a = entries::row::run_in(row, i + 1);
         at = line(&mut *out, at, i + 1, a);
-        i += 1;
     }
     at
 }
@@ -60,8 +57,8 @@ fn text(file: &[u8], out: &mut [u8]) -> usize
     let mut row = [0u32; 8192];
     let j = index::rowed::judged(file, &mut row);
     match j {
-        Opened::Refused(r) => refused(&mut *out, r),
-        Opened::Opens(z) => {
+        Err(r) => refused(&mut *out, r),
+        Ok(z) => {
             let n = look::rows::scans(&row, z.u);
             let at = put::three(
                 &mut *out,

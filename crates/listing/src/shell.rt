@@ -7,25 +7,18 @@ ghost use Rattle.listing.specs.Input.{input_of, Within, Took, Filled};
 use std::io;
 use std::io::{Read, Write};
 
-// What a reader gave: so many bytes before its end, or before there was no more room, or a read that failed.
-#[derive(Clone, Copy)]
-pub enum Input {
-    Read(usize),
-    Failed,
-}
-
-// What the answer of one read says. An error is a failure, and no end of the input: that is where no byte came.
-fn told(got: io::Result<usize>, room: &[u8]) -> Input
+// What the answer of one read says: how many bytes came, and nothing where it failed. An error is no end of the input: that is where no byte came.
+fn told(got: io::Result<usize>, room: &[u8]) -> Option<usize>
     ensures { result ≡ input_of got (length room.now) }
 {
     let Ok(n) = got else {
-        return Input::Failed;
+        return None;
     };
-    Input::Read(n.min(room.len()))
+    Some(n.min(room.len()))
 }
 
 // One read.
-fn some<R: Read>(input: &mut R, room: &mut [u8]) -> Input
+fn some<R: Read>(input: &mut R, room: &mut [u8]) -> Option<usize>
     ensures within { Within result room.new }
     ensures bytes { Took result room.new (R.remaining input.old) (R.remaining input.new) }
 {
@@ -34,22 +27,19 @@ fn some<R: Read>(input: &mut R, room: &mut [u8]) -> Input
 }
 
 // Reads to the end of the input, or until `room` is full. A failed read is not the end, whatever came before it.
-fn fill<R: Read>(input: &mut R, room: &mut [u8]) -> Input
+fn fill<R: Read>(input: &mut R, room: &mut [u8]) -> Option<usize>
     ensures within { Within result room.new }
     ensures bytes { Filled result room.new (R.remaining input.old) }
 {
     let mut n = 0;
     while n < room.len() {
-        let got = some(&mut *input, &mut room[n..]);
-        let Input::Read(k) = got else {
-            return got;
-        };
+        let k = some(&mut *input, &mut room[n..])?;
         if k == 0 {
-            return Input::Read(n);
+            return Some(n);
         }
         n += k;
     }
-    Input::Read(n)
+    Some(n)
 }
 
 // Writes all the bytes. Where a write fails, some of them are written.
@@ -79,7 +69,7 @@ pub fn print<R: Read, W: Write>(input: &mut R, out: &mut W) -> io::Result<bool>
 {
     let mut file = [0u8; 65537];
     let got = fill(&mut *input, &mut file);
-    let Input::Read(n) = got else {
+    let Some(n) = got else {
         return Ok(false);
     };
     let mut text = [0u8; 90000];

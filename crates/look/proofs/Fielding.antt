@@ -1,48 +1,34 @@
 -- What a mode makes of two fields, and an entry by its fields.
-use Prim.Native.Nat.{ℕ, ◌+◌, ◌-◌, ◌≤◌, ◌<◌}
+use Rattle.std.specs.Prelude.{Ok, Err}
+use Prim.Native.Nat.{ℕ, ◌+◌, ◌<◌}
 use mathlib.Core.Path.{◌≡◌, refl, sym, ◌∙◌, ap}
 use mathlib.Core.Bool.{Bool, true, false}
 use mathlib.Core.List.{List}
 use native.Mathlib.Nat.{add_assoc}
 use native.Mathlib.Omega.{arith}
-use lib.Dec.{ltb, eqb}
-use lib.IntN.{ℤ, pos}
+use lib.Dec.{ltb}
+use lib.IntN.{ℤ}
 use lib.Ieee.{Float, binary32, binary64, of_bits}
 use borrow.Author.Tests.{lt-leb, le-leb, ltb-false}
 use Rattle.lent.specs.Number.{be16, be32, be64, int16}
 use Rattle.lent.specs.Part.{part}
 use Rattle.paper.specs.declared.entry.Kind.{Kind}
-use Rattle.paper.specs.declared.entry.Kind.TheVariants.{Spectral, Continuum, Other}
+use Rattle.paper.specs.declared.entry.Kind.TheVariants.{Other}
 use Rattle.paper.specs.declared.entry.Entry.{Entry}
-use Rattle.paper.specs.declared.entry.Found.{Found}
-use Rattle.paper.specs.declared.answer.Taken.TheVariants as taken
+use Rattle.paper.specs.Answers.{Found}
 use Rattle.paper.specs.declared.refusal.Refusal.{Refusal}
 use Rattle.paper.specs.declared.sizes.Sizes.{Sizes}
 use Rattle.paper.specs.declared.sizes.Run.{Run}
 use Rattle.paper.specs.Sizes.{word_at, home_of}
-use Rattle.paper.specs.Entry.{natural_of, kind_of, magic_of, position_of, version_one, fields_of, no_entry}
+use Rattle.paper.specs.Entry.{natural_of, kind_of, magic_of, position_of, fields_of, no_entry}
 use Rattle.paper.specs.Look.{found_of}
-use Rattle.paper.proofs.Forms.{by_old, by-current}
-use Rattle.look.specs.declared.slot.Held.TheVariants.{Scan, Refused as Unheld}
 use Rattle.look.specs.Slot.{held_of}
 use Rattle.look.proofs.Slots.{held, refused-call, held-call}
 
 module _ (mode : ℕ) (a b : Float) where
-  pub continuum : 256 ≤ mode → mode ≤ 304 → Continuum (mode - 256) a b ≡ kind_of mode a b
-  unfolding kind_of
-  continuum h k = simp (le-leb 256 mode h, le-leb mode 304 k)
-
-  pub spectral : 512 ≤ mode → mode ≤ 560 → Spectral (mode - 512) a b ≡ kind_of mode a b
-  unfolding kind_of
-  spectral h k = simp (le-leb 256 mode (omega arith), lt-leb mode 304 (omega arith), le-leb 512 mode h, le-leb mode 560 k)
-
   pub below : mode < 256 → Other a b ≡ kind_of mode a b
   unfolding kind_of
   below h = simp (lt-leb 256 mode h, lt-leb 512 mode (omega arith))
-
-  pub between : 304 < mode → mode < 512 → Other a b ≡ kind_of mode a b
-  unfolding kind_of
-  between h k = simp (le-leb 256 mode (omega arith), lt-leb mode 304 h, lt-leb 512 mode k)
 
   pub above : 560 < mode → Other a b ≡ kind_of mode a b
   unfolding kind_of
@@ -59,34 +45,6 @@ kind-bits v a b = go (ltb v 32768) refl
 
 pub kind-same : {m n : ℕ} {a b c d : Float} → m ≡ n → a ≡ c → b ≡ d → kind_of m a b ≡ kind_of n c d
 kind-same p q r = cc
-
--- ---- what has another place in each form
-
-module _ (v : ℕ) (f : List ℕ) (at : ℕ) {r : ℤ} where
-  pub position-old : v ≡ 0 → r ≡ int16 (be16 f (at + 6)) → r ≡ int16 (position_of v f at)
-  unfolding position_of
-  position-old e p = p ∙ ap int16 (by_old v _ _ e)
-
-  pub position-current : (v ≡ 0 → ⊥) → r ≡ int16 (be16 f (at + 60)) → r ≡ int16 (position_of v f at)
-  unfolding position_of
-  position-current h p = p ∙ ap int16 (by-current v _ _ h)
-
-  pub magic-old : v ≡ 0 → r ≡ int16 (be16 f (at + 4)) → r ≡ int16 (magic_of v f at)
-  unfolding magic_of
-  magic-old e p = p ∙ ap int16 (by_old v _ _ e)
-
-module _ (v : ℕ) (f : List ℕ) (at : ℕ) where
-  pub magic-current : (v ≡ 0 → ⊥) → pos 0 ≡ int16 (magic_of v f at)
-  unfolding magic_of int16
-  magic-current h = ap int16 (by-current v _ 0 h)
-
-  pub one-old : {m : ℕ} → v ≡ 0 → m ≡ be16 f (at + 4) → eqb m 2 ≡ version_one v f at
-  unfolding version_one magic_of
-  one-old e p = ap (λ x. eqb x 2) (p ∙ by_old v _ _ e) ∙ by_old v _ _ e
-
-  pub one-current : (v ≡ 0 → ⊥) → true ≡ version_one v f at
-  unfolding version_one
-  one-current h = by-current v _ _ h
 
 -- sixteen bytes from place 16 on
 pub source-end : (s : List ℕ) (at : ℕ) → part (at + 16) (at + 16 + 16) s ≡ part (at + 16) (at + 32) s
@@ -116,15 +74,13 @@ entry-is v s at e0 e1 e2 e3 e4 e5 e6 e7 e8 e9 e10 e11 e12 e13 e14 = cc
 -- ---- what a slot's entry is found to be
 
 module _ (f : List ℕ) (s : ℕ) where
-  pub found-refused : {q : Refusal} {e : Entry} → held_of f s ≡ Unheld q → e ≡ no_entry → ◌≡◌ {A = Found} (record { answer = taken.Refused q; entry = e }) (found_of f s)
+  pub found-refused : {q : Refusal} → held_of f s ≡ Err q → Err q ≡ found_of f s
   unfolding found_of
-  found-refused {q} {e} h p =
-      ap (λ (x : Entry). record { answer = taken.Refused q; entry = x }) p
-      ∙ refused-call f s (λ r. record { answer = taken.Refused r; entry = no_entry }) _ h
+  found-refused h = refused-call f s Err _ h
 
-  pub found-held : {z : Sizes} {r : Run} {at : ℕ} {e : Entry} → held_of f s ≡ Scan z r → at ≡ home_of z s → e ≡ fields_of z.version f at
-      → ◌≡◌ {A = Found} (record { answer = taken.Accepted; entry = e }) (found_of f s)
+  pub found-held : {z : Sizes} {r : Run} {at : ℕ} {e : Entry} → held_of f s ≡ Ok (z, r) → at ≡ home_of z s → e ≡ fields_of z.version f at
+      → Ok e ≡ found_of f s
   unfolding found_of
   found-held {z} {r} {at} {e} h p q =
-      ap (λ (x : Entry). record { answer = taken.Accepted; entry = x }) (q ∙ ap (fields_of z.version f) p)
-      ∙ held-call f s (held f s h) (λ r. record { answer = taken.Refused r; entry = no_entry }) (λ y x. record { answer = taken.Accepted; entry = fields_of y.version f (home_of y s) })
+      ap Ok (q ∙ ap (fields_of z.version f) p)
+      ∙ held-call f s (held f s h) Err (λ y x. Ok (fields_of y.version f (home_of y s)))

@@ -68,9 +68,6 @@ module _ (piece : ℕ → Run → List ℕ) (run : ℕ → Run) where
       pub put_keeps : i ≤ u → length out ≡ length lent
       put_keeps l = put-length (omega (arith, grows i u l)) h
 
-      pub put-ends : i ≤ u → u ≤ i → Put lent at (pieces_in piece run u) out to
-      put-ends l m = let e : i ≡ u = omega arith in rw e at h
-
       module _ (under : i < u) {a : Run} (e : a ≡ run (i + 1)) where
         next_fits : length (pieces_in piece run i) + length (piece_if piece (i + 1) a) ≤ length (pieces_in piece run u)
         next_fits = rw (e, add-one) (omega (arith, grows (suc i) u (omega arith), length-step i))

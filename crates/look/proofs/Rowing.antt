@@ -1,4 +1,5 @@
 -- The rows of the list: how many there are, one of them, and each answer of the list.
+use Rattle.std.specs.Prelude.{Ok, Err}
 use Prim.Native.Nat.{ℕ, suc, ◌+◌, ◌*◌, ◌≤◌, ◌<◌}
 use mathlib.Core.Path.{◌≡◌, refl, sym, ◌∙◌, ap}
 use mathlib.Core.Bool.{Bool, true, false, not, cond}
@@ -17,9 +18,7 @@ use Rattle.paper.specs.declared.sizes.Sizes.{Sizes}
 use Rattle.paper.specs.declared.sizes.Run.{Run}
 use Rattle.paper.specs.declared.refusal.Refusal.{Refusal}
 use Rattle.paper.specs.declared.refusal.Refusal.TheVariants.{TooSmall}
-use Rattle.paper.specs.declared.answer.Opened.TheVariants.{Opens, Refused}
-use Rattle.paper.specs.declared.answer.Listed.{Listed}
-use Rattle.paper.specs.declared.answer.Listed.TheVariants.{Scans, Refused as Unlisted}
+use Rattle.paper.specs.Answers.{Listed}
 use Rattle.paper.specs.Index.{run_of, row_run, empty, slots_of, open_of}
 use Rattle.paper.specs.Look.{lines_of, listed_of, listed_out}
 use Rattle.entries.specs.Row.{Runs}
@@ -78,28 +77,28 @@ module _ (f out : List ℕ) where
   own z = check (ltb (length out) (3 * length (slots_of z (run_of f z)))) TooSmall ∷ []
 
   abbrev scans : Sizes → Listed
-  scans z = Scans (length (slots_of z (run_of f z)))
+  scans z = Ok (length (slots_of z (run_of f z)))
 
   abbrev lines : Sizes → List ℕ
   lines z = write out 0 (lines_of (run_of f z) (slots_of z (run_of f z)))
 
-  pub list-refused : {r : Refusal} → open_of f ≡ Refused r → (Unlisted r ≡ listed_of f out) × (out ≡ listed_out f out)
+  pub list-refused : {r : Refusal} → open_of f ≡ Err r → (Err r ≡ listed_of f out) × (out ≡ listed_out f out)
   unfolding listed_of listed_out
-  list-refused o = (call-refused f Unlisted own scans o, call-refused f (λ r. out) own lines o)
+  list-refused o = (call-refused f Err own scans o, call-refused f (λ r. out) own lines o)
 
-  module _ {z : Sizes} (o : open_of f ≡ Opens z) (row : List ℕ) (rs : Runs f z row z.u)
+  module _ {z : Sizes} (o : open_of f ≡ Ok z) (row : List ℕ) (rs : Runs f z row z.u)
       (n : ℕ) (e : n ≡ length (scans_in (row_run row) z.u)) where
     count : n ≡ length (slots_of z (run_of f z))
     count = e ∙ ap length (row-slots f row rs)
 
-    pub list-small : length out < 3 * n → (Unlisted TooSmall ≡ listed_of f out) × (out ≡ listed_out f out)
+    pub list-small : length out < 3 * n → (Err TooSmall ≡ listed_of f out) × (out ≡ listed_out f out)
     unfolding listed_of listed_out
     list-small h =
         let t : ltb (length out) (3 * length (slots_of z (run_of f z))) ≡ true = lt-ltb (length out) (3 * length (slots_of z (run_of f z))) (omega (arith, count)) in
-        (rw (call_opens f Unlisted own scans o, t), rw (call_opens f (λ r. out) own lines o, t))
+        (rw (call_opens f Err own scans o, t), rw (call_opens f (λ r. out) own lines o, t))
 
-    pub list_done : (next : List ℕ) → 3 * n ≤ length out → next ≡ write out 0 (pieces_in row_of (row_run row) z.u) → (Scans n ≡ listed_of f out) × (next ≡ listed_out f out)
+    pub list_done : (next : List ℕ) → 3 * n ≤ length out → next ≡ write out 0 (pieces_in row_of (row_run row) z.u) → (Ok n ≡ listed_of f out) × (next ≡ listed_out f out)
     unfolding listed_of listed_out
     list_done next h p =
         let t : ltb (length out) (3 * length (slots_of z (run_of f z))) ≡ false = le-ltb (length out) (3 * length (slots_of z (run_of f z))) (omega (arith, count)) in
-        (rw (call_opens f Unlisted own scans o, t) (ap Scans count), rw (call_opens f (λ r. out) own lines o, t) (p ∙ ap (write out 0) (row-lines f row rs)))
+        (rw (call_opens f Err own scans o, t) (ap Ok count), rw (call_opens f (λ r. out) own lines o, t) (p ∙ ap (write out 0) (row-lines f row rs)))

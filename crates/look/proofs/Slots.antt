@@ -1,4 +1,5 @@
 -- What is found at a slot, from plain facts and back to them.
+use Rattle.std.specs.Prelude.{Result, Ok, Err}
 use Prim.Native.Nat.{ℕ, ◌+◌, ◌*◌, ◌≤◌}
 use mathlib.Core.Path.{◌≡◌, refl, sym, ◌∙◌, ap, subst}
 use mathlib.Core.Bool.{true, false}
@@ -10,19 +11,16 @@ use borrow.Author.Tests.{leb-true, le-leb, not-false}
 use Rattle.lent.specs.Lists.{all}
 use Rattle.lent.specs.Checks.{Check, clear, fires, fired, judge}
 use Rattle.lent.proofs.Lists.{all_true, true-all, no_all}
-use Rattle.lent.proofs.Checks.{clear-all, judge-clear, judge-fires, judge-passed, judge-refused}
+use Rattle.lent.proofs.Checks.{clear-all, judge-clear, judge-fires, judged-ok, judged-err}
 use Rattle.paper.specs.declared.sizes.Sizes.{Sizes}
 use Rattle.paper.specs.declared.sizes.Run.{Run}
 use Rattle.paper.specs.declared.refusal.Refusal.{Refusal}
 use Rattle.paper.specs.declared.refusal.Refusal.TheVariants.{NoSuchSlot, EmptySlot}
-use Rattle.paper.specs.declared.answer.Opened.TheVariants.{Opens, Refused}
 use Rattle.paper.specs.Sizes.{sizes_of, capacity_of, home_of, Slotted}
 use Rattle.paper.specs.Index.{run_of, empty, open_of, Lies, Sound}
 use Rattle.paper.specs.Look.{slot_tests, no_slot, no_scan, slot_checks}
 use Rattle.paper.proofs.Sizing.{bytes_small, home-end, home-in, slotted}
 use Rattle.paper.proofs.Opening.{open-reads, open-sound, then-clear, full-facts, lies-data, inside-all}
-use Rattle.look.specs.declared.slot.Held.{Held}
-use Rattle.look.specs.declared.slot.Held.TheVariants.{Scan, Refused as Unheld}
 use Rattle.look.specs.Slot.{held_of, Within}
 use Rattle.look.proofs.Calls.{call_opens, call-refused}
 
@@ -32,19 +30,19 @@ own f s z = no_slot z s ∷ no_scan (run_of f z s) ∷ []
 -- ---- each answer of the search
 
 module _ (f : List ℕ) (s : ℕ) where
-  abbrev scan : Sizes → Held
-  scan z = Scan z (run_of f z s)
+  abbrev scan : Sizes → Result (Sizes × Run) Refusal
+  scan z = Ok (z, run_of f z s)
 
-  pub find-refused : {r : Refusal} → open_of f ≡ Refused r → Unheld r ≡ held_of f s
+  pub find-refused : {r : Refusal} → open_of f ≡ Err r → Err r ≡ held_of f s
   unfolding held_of
-  find-refused o = call-refused f Unheld (own f s) scan o
+  find-refused o = call-refused f Err (own f s) scan o
 
-  module _ {z : Sizes} (o : open_of f ≡ Opens z) where
-    held-opens : held_of f s ≡ judge Unheld (own f s z) (scan z)
+  module _ {z : Sizes} (o : open_of f ≡ Ok z) where
+    held-opens : held_of f s ≡ judge Err (own f s z) (scan z)
     unfolding held_of
-    held-opens = call_opens f Unheld (own f s) scan o
+    held-opens = call_opens f Err (own f s) scan o
 
-    pub find-outside : (1 ≤ s → s ≤ capacity_of z → ⊥) → Unheld NoSuchSlot ≡ held_of f s
+    pub find-outside : (1 ≤ s → s ≤ capacity_of z → ⊥) → Err NoSuchSlot ≡ held_of f s
     find-outside h =
         let e : all (slot_tests z s) ≡ false = sym (no_all (slot_tests z s) (λ t. h (leb-true _ _ t.0) (leb-true _ _ t.1.0))) in
         rw (held-opens, e)
@@ -53,16 +51,16 @@ module _ (f : List ℕ) (s : ℕ) where
       inside : all (slot_tests z s) ≡ true
       inside = true-all (slot_tests z s) (le-leb _ _ low, (le-leb _ _ high, tt))
 
-      pub find-empty : empty r ≡ true → Unheld EmptySlot ≡ held_of f s
+      pub find-empty : empty r ≡ true → Err EmptySlot ≡ held_of f s
       find-empty h = rw (held-opens, inside, ← p, h)
 
-      pub find-scan : empty r ≡ false → Scan z r ≡ held_of f s
+      pub find-scan : empty r ≡ false → Ok (z, r) ≡ held_of f s
       find-scan h = rw (held-opens, inside, ← p, h)
 
--- ---- what `held_of f s ≡ Scan z r` says
+-- ---- what `held_of f s ≡ Ok (z, r)` says
 
 pub record Holding (f : List ℕ) (s : ℕ) (z : Sizes) (r : Run) : Type 0 where
-  pub opens : open_of f ≡ Opens z
+  pub opens : open_of f ≡ Ok z
   pub clears : fired (slot_checks f s) ≡ clear
   pub low : 1 ≤ s
   pub high : s ≤ capacity_of z
@@ -76,33 +74,19 @@ clear-holding f s e =
     let t = all_true (slot_tests (sizes_of f) s) (not-false _ c.0) in
     record { opens = p.0; clears = e; low = leb-true _ _ t.0; high = leb-true _ _ t.1.0; run = refl; full = c.1.0 }
 
-never : (z : Sizes) (r : Run) (q : Refusal) → Unheld q ≡ Scan z r → ⊥
-never z r q e = let x : ◌≡◌ {A = ℕ} 0 1 = cc in omega arith
-
-unheld-one : (p q : Refusal) → Unheld p ≡ Unheld q → p ≡ q
-unheld-one p q e = cc
-
-same-scan : (f : List ℕ) (s : ℕ) (y z : Sizes) (x r : Run) → Scan y x ≡ Scan z r → Holding f s y x → Holding f s z r
-same-scan f s y z x r e h =
-    let p : y ≡ z = cc in
-    let q : x ≡ r = cc in
-    let k : Holding f s y r = rw q at h in
-    rw p at k
-
 module _ (f : List ℕ) (s : ℕ) where
-  pub held : {z : Sizes} {r : Run} → held_of f s ≡ Scan z r → Holding f s z r
+  pub held : {z : Sizes} {r : Run} → held_of f s ≡ Ok (z, r) → Holding f s z r
   unfolding held_of
   held {z} {r} e =
-      let p = judge-passed Unheld (slot_checks f s) (scan f s (sizes_of f)) (Scan z r) (never z r) e in
-      same-scan f s (sizes_of f) z (run_of f (sizes_of f) s) r p.1 (clear-holding f s p.0)
+      let p = judged-ok (slot_checks f s) (sizes_of f, run_of f (sizes_of f) s) e in
+      subst (λ (q : Sizes × Run). Holding f s q.0 q.1) p.1 (clear-holding f s p.0)
 
-  pub held-fires : {q : Refusal} → held_of f s ≡ Unheld q → fired (slot_checks f s) ≡ fires q
+  pub held-fires : {q : Refusal} → held_of f s ≡ Err q → fired (slot_checks f s) ≡ fires q
   unfolding held_of
-  held-fires {q} e =
-      judge-refused Unheld (slot_checks f s) (scan f s (sizes_of f)) q unheld-one (λ x. never (sizes_of f) (run_of f (sizes_of f) s) q (sym x)) e
+  held-fires e = judged-err (slot_checks f s) (sizes_of f, run_of f (sizes_of f) s) e
 
   -- every call over the same checks
-  pub refused-call : {A : Type 0} (refuse : Refusal → A) (a : A) {q : Refusal} → held_of f s ≡ Unheld q → refuse q ≡ judge refuse (slot_checks f s) a
+  pub refused-call : {A : Type 0} (refuse : Refusal → A) (a : A) {q : Refusal} → held_of f s ≡ Err q → refuse q ≡ judge refuse (slot_checks f s) a
   refused-call refuse a {q} e = sym (judge-fires refuse (slot_checks f s) a q (held-fires e))
 
   module _ {z : Sizes} {r : Run} (h : Holding f s z r) where

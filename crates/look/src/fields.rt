@@ -2,32 +2,25 @@
 ghost use Rattle.std.specs.Prelude.{◌≡◌, ◌+◌, ◌≤◌, length};
 ghost use Rattle.lent.specs.Number.{int16};
 ghost use Rattle.lent.specs.Part.{part};
-ghost use Rattle.paper.specs.Entry.{kind_of, magic_of, position_of, version_one, fields_of, no_entry};
+ghost use Rattle.paper.specs.Entry.{kind_of, magic_of, position_of, version_one, fields_of};
 ghost use Rattle.paper.specs.Look.{found_of};
 
-use super::slot::Held;
 use bootstrap::words::word;
 use lent::read::{int16, word16, word32, word64};
-use paper::answer::Taken;
-use paper::entry::{Entry, Found, Kind};
+use paper::entry::{Entry, Kind};
+use paper::refusal::Refusal;
+use std::num;
 
 // What a mode makes of bytes 36 to 47.
+#[tactic(auto, unfolding(paper::specs::Entry::kind_of))]
 fn kind(mode: usize, a: f32, b: f64) -> Kind
     ensures { result ≡ kind_of mode a b }
 {
-    if mode < 256 {
-        return Kind::Other(a, b);
+    match mode {
+        256..=304 => Kind::Continuum(mode - 256, a, b),
+        512..=560 => Kind::Spectral(mode - 512, a, b),
+        _ => Kind::Other(a, b),
     }
-    if mode <= 304 {
-        return Kind::Continuum(mode - 256, a, b);
-    }
-    if mode < 512 {
-        return Kind::Other(a, b);
-    }
-    if mode <= 560 {
-        return Kind::Spectral(mode - 512, a, b);
-    }
-    Kind::Other(a, b)
 }
 
 // Sixteen bytes by value.
@@ -35,13 +28,13 @@ fn source(file: &[u8], at: usize) -> [u8; 16]
     requires { at + 16 ≤ length file.now }
     ensures { result ≡ part at (at + 16) file.now }
 {
-    let e = at + 16;
     let mut a = [0u8; 16];
-    lent::write::copy(&mut a, &file[at..e]);
+    a.copy_from_slice(&file[at..at + 16]);
     a
 }
 
 // The position code, which each form has at a place of its own.
+#[tactic(auto, unfolding(paper::specs::Entry::position_of))]
 fn position(file: &[u8], version: usize, at: usize) -> i16
     requires { at ≤ 4096000000 }
     ensures { result ≡ int16 (position_of version file.now at) }
@@ -53,6 +46,7 @@ fn position(file: &[u8], version: usize, at: usize) -> i16
 }
 
 // The magic number, which the current form does not have.
+#[tactic(auto, unfolding(paper::specs::Entry::magic_of, lent::specs::Number::int16))]
 fn magic(file: &[u8], version: usize, at: usize) -> i16
     requires { at ≤ 4096000000 }
     ensures { result ≡ int16 (magic_of version file.now at) }
@@ -64,14 +58,12 @@ fn magic(file: &[u8], version: usize, at: usize) -> i16
 }
 
 // The scan is of version 1. A current entry has no other.
+#[tactic(auto, unfolding(paper::specs::Entry::version_one, paper::specs::Entry::magic_of))]
 pub fn version_one(file: &[u8], version: usize, at: usize) -> bool
     requires { at ≤ 4096000000 }
     ensures { result ≡ version_one version file.now at }
 {
-    if version == 0 {
-        return word16(file, at + 4) == 2;
-    }
-    true
+    version != 0 || word16(file, at + 4) == 2
 }
 
 // The fields of the entry at a place. A mode above 32,767 stands for a negative number, and is of neither kind as it is.
@@ -99,48 +91,16 @@ pub fn fields(file: &[u8], version: usize, at: usize) -> Entry
         magic: magic(file, version, at),
         kind: kind(
             mode as usize,
-            super::float::single(field4),
-            super::float::double(field8),
+            num::f32_from_bits_with_nan(field4),
+            num::f64_from_bits_with_nan(field8),
         ),
     }
 }
 
-// All zeros.
-fn nothing() -> Entry
-    ensures { result ≡ no_entry }
-{
-    Entry {
-        first: 0,
-        last: 0,
-        horizontal: 0,
-        vertical: 0,
-        source: [0u8; 16],
-        scan: 0,
-        field4: 0,
-        field8: 0,
-        lst: 0,
-        date: 0,
-        mode: 0,
-        number: 0,
-        position: 0,
-        magic: 0,
-        kind: Kind::Other(0.0, 0.0),
-    }
-}
-
 // The fields of a slot's entry.
-pub fn found(file: &[u8], slot: usize) -> Found
+pub fn found(file: &[u8], slot: usize) -> Result<Entry, Refusal>
     ensures { result ≡ found_of file.now slot }
 {
-    let h = super::slot::find(file, slot);
-    match h {
-        Held::Scan(z, _) => Found {
-            answer: Taken::Accepted,
-            entry: fields(file, z.version, z.home(slot)),
-        },
-        Held::Refused(r) => Found {
-            answer: Taken::Refused(r),
-            entry: nothing(),
-        },
-    }
+    let (z, _) = super::slot::find(file, slot)?;
+    Ok(fields(file, z.version, z.home(slot)))
 }

@@ -6,7 +6,6 @@ ghost use Rattle.paper.specs.Index.{row_run};
 ghost use Rattle.look.specs.Put.{Put};
 ghost use Rattle.look.specs.Rows.{scans_in, one_if, piece_if, pieces_in, row_of, Narrow};
 
-use paper::answer::{Listed, Opened};
 use paper::refusal::Refusal;
 use paper::sizes::Run;
 
@@ -27,11 +26,9 @@ pub fn scans(row: &[u32], u: usize) -> usize
     ensures { (result ≡ length (scans_in (row_run row.now) u)) × (result ≤ 4096) }
 {
     let mut n = 0;
-    let mut i = 0;
-    while i < u {
+    for i in 0..u {
         let a = entries::row::run_in(row, i + 1);
         n = next(n, a);
-        i += 1;
     }
     n
 }
@@ -58,30 +55,23 @@ fn fill(row: &[u32], u: usize, out: &mut [u32])
     ensures { out.new ≡ write out.old 0 (pieces_in row_of (row_run row.now) u) }
 {
     let mut at = 0;
-    let mut i = 0;
-    while i < u {
+    for i in 0..u {
         let a = entries::row::run_in(row, i + 1);
         at = put_row(&mut *out, at, i + 1, a);
-        i += 1;
     }
 }
 
 // All is counted before a row is written, since a list that does not fit writes nothing.
-pub fn listed(file: &[u8], out: &mut [u32]) -> Listed
+pub fn listed(file: &[u8], out: &mut [u32]) -> Result<usize, Refusal>
     ensures value { result ≡ listed_of file.now out.old }
     ensures out_after { out.new ≡ listed_out file.now out.old }
 {
     let mut row = [0u32; 8192];
-    let j = index::rowed::judged(file, &mut row);
-    match j {
-        Opened::Refused(r) => Listed::Refused(r),
-        Opened::Opens(z) => {
-            let n = scans(&row, z.u);
-            if out.len() < 3 * n {
-                return Listed::Refused(Refusal::TooSmall);
-            }
-            fill(&row, z.u, &mut *out);
-            Listed::Scans(n)
-        }
+    let z = index::rowed::judged(file, &mut row)?;
+    let n = scans(&row, z.u);
+    if out.len() < 3 * n {
+        return Err(Refusal::TooSmall);
     }
+    fill(&row, z.u, &mut *out);
+    Ok(n)
 }

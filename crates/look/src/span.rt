@@ -6,8 +6,6 @@ ghost use Rattle.paper.specs.Scan.{ruled_of};
 ghost use Rattle.paper.specs.Look.{records_span, read_in, show_of, read_of};
 ghost use Rattle.look.specs.Slot.{Within};
 
-use super::slot::Held;
-use paper::answer::{Ruled, Span};
 use paper::refusal::Refusal;
 use paper::sizes::{Run, Sizes};
 
@@ -20,48 +18,39 @@ fn start(z: Sizes, a: Run) -> usize
 }
 
 // The bytes of the records of a run.
-fn records(z: Sizes, a: Run) -> Span
+fn records(z: Sizes, a: Run) -> Result<(usize, usize), Refusal>
     requires { Within z a }
     ensures { result ≡ records_span z a }
 {
-    Span::Part(start(z, a), a.last * z.l)
+    Ok((start(z, a), a.last * z.l))
 }
 
 // The span of a slot's records.
-pub fn shown(file: &[u8], slot: usize) -> Span
+pub fn shown(file: &[u8], slot: usize) -> Result<(usize, usize), Refusal>
     ensures { result ≡ show_of file.now slot }
 {
-    let h = super::slot::find(file, slot);
-    match h {
-        Held::Scan(z, a) => records(z, a),
-        Held::Refused(r) => Span::Refused(r),
-    }
+    let (z, a) = super::slot::find(file, slot)?;
+    records(z, a)
 }
 
 // The span of the scan in the records from `from` up to `to`.
-fn scan_in(file: &[u8], from: usize, to: usize) -> Span
+fn scan_in(file: &[u8], from: usize, to: usize) -> Result<(usize, usize), Refusal>
     requires { from ≤ 4096000000 }
     ensures { result ≡ read_in from (ruled_of (part from to file.now) false) }
 {
-    let ruled = scan::rules::judge(lent::part::part(file, from, to), false);
-    match ruled {
-        Ruled::Keeps(head, rest) => Span::Part(from, from + (head + rest)),
-        Ruled::Breaks(reason) => Span::Refused(Refusal::BadScan(reason)),
-    }
+    let (head, rest) = scan::rules::judge(lent::part::part(file, from, to), false).map_err(
+        Refusal::BadScan,
+    )?;
+    Ok((from, from + (head + rest)))
 }
 
 // The span of a slot's scan: of version 1, and by the rules.
-pub fn scanned(file: &[u8], slot: usize) -> Span
+pub fn scanned(file: &[u8], slot: usize) -> Result<(usize, usize), Refusal>
     ensures { result ≡ read_of file.now slot }
 {
-    let h = super::slot::find(file, slot);
-    match h {
-        Held::Scan(z, a) => {
-            if !super::fields::version_one(file, z.version, z.home(slot)) {
-                return Span::Refused(Refusal::NotVersionOne);
-            }
-            scan_in(file, start(z, a), a.last * z.l)
-        }
-        Held::Refused(r) => Span::Refused(r),
+    let (z, a) = super::slot::find(file, slot)?;
+    if !super::fields::version_one(file, z.version, z.home(slot)) {
+        return Err(Refusal::NotVersionOne);
     }
+    scan_in(file, start(z, a), a.last * z.l)
 }

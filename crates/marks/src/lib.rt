@@ -10,11 +10,7 @@ pub mod past;
 pub fn clear(marks: &mut [u64])
     ensures { Clear marks.new }
 {
-    let mut i = 0;
-    while i < marks.len() {
-        marks[i] = 0;
-        i += 1;
-    }
+    marks.fill(0);
 }
 
 // The word whose bits `x` to `y` are set, made of its two powers of two.
@@ -28,6 +24,7 @@ fn ones(x: usize, y: usize) -> u64
 }
 
 // Takes the records of word `i` from bit `x` to bit `y`, unless one of them is taken.
+#[inline(always)]
 fn take_bits(marks: &mut [u64], i: usize, x: usize, y: usize) -> bool
     requires { (i < length marks.old) × (x ≤ y) × (y < 64) }
     ensures { result ≡ true → Took marks.old marks.new (64 * i + x) (64 * i + y + 1) }
@@ -42,31 +39,31 @@ fn take_bits(marks: &mut [u64], i: usize, x: usize, y: usize) -> bool
 }
 
 // Takes the records `a` to `b`, word by word.
+#[inline(never)]
 fn take_words(marks: &mut [u64], a: usize, b: usize) -> bool
     requires { (a ≤ b) × (b ≤ 1000000) × (b / 64 < length marks.old) }
     ensures { result ≡ true → Took marks.old marks.new a (b + 1) }
 {
-    let j = b / 64;
-    let mut i = a / 64;
     let mut x = a % 64;
-    while i < j {
+    for i in a / 64..b / 64 {
         if !take_bits(&mut *marks, i, x, 63) {
             return false;
         }
-        i += 1;
         x = 0;
     }
-    take_bits(&mut *marks, i, x, b % 64)
+    take_bits(marks, b / 64, x, b % 64)
 }
 
 // Takes the records `a` to `b`, or answers that one of them was taken. A short run mostly lies in one word. The marks reach word `b / 64`; 15,626 words are the most, for the records up to 1,000,000.
+#[inline(always)]
 pub fn take_run(marks: &mut [u64], a: usize, b: usize) -> bool
     requires { (a ≤ b) × (b ≤ 1000000) × (b / 64 < length marks.old) }
     ensures { result ≡ true → Took marks.old marks.new a (b + 1) }
 {
     let i = a / 64;
     if i == b / 64 {
-        return take_bits(marks, i, a % 64, b % 64);
+        take_bits(marks, i, a % 64, b % 64)
+    } else {
+        take_words(marks, a, b)
     }
-    take_words(marks, a, b)
 }

@@ -1,5 +1,5 @@
 //! The places that no run of free records can start at, because a marked record would lie in it.
-ghost use Rattle.std.specs.Prelude.{◌≡◌, true, ◌+◌, ◌*◌, ◌≤◌, length};
+ghost use Rattle.std.specs.Prelude.{◌≡◌, true, ◌+◌, ◌*◌, ◌≤◌, ◌<◌, length};
 ghost use Rattle.marks.specs.Marks.{mark_of, Tail, Full, Blocked};
 
 // Whether record `x` is marked; a record that the marks do not reach is not.
@@ -7,17 +7,14 @@ pub fn taken(marks: &[u64], x: usize) -> bool
     ensures { result ≡ true → mark_of marks.now x ≡ 1 }
 {
     let w = x / 64;
-    if marks.len() <= w {
-        return false;
-    }
-    (marks[w] >> (x % 64)) % 2 == 1
+    w < marks.len() && (marks[w] >> (x % 64)) % 2 == 1
 }
 
 // How many of a word's lowest bits are set, up to the first that is not.
 fn low_ones(v: u64) -> usize
     ensures { Tail v result }
 {
-    u64::trailing_zeros(18446744073709551615 - v) as usize
+    v.trailing_ones() as usize
 }
 
 // The end of the marked records from `a` on, as far as the word of `a` goes.
@@ -26,20 +23,18 @@ fn past_bits(marks: &[u64], a: usize) -> usize
     ensures { Full marks.now a result × (result ≤ a + 64) }
 {
     let w = a / 64;
-    if marks.len() <= w {
-        return a;
+    if w < marks.len() {
+        a + low_ones(marks[w] >> (a % 64))
+    } else {
+        a
     }
-    a + low_ones(marks[w] >> (a % 64))
 }
 
 // The words to look at: 20,000 are more than all records need, so that 64 times a word's number fits.
 fn words(marks: &[u64]) -> usize
     ensures { (result ≤ length marks.now) × (result ≤ 20000) }
 {
-    if marks.len() <= 20000 {
-        return marks.len();
-    }
-    20000
+    marks.len().min(20000)
 }
 
 // The first word from `from` on whose records are not all marked.
@@ -48,14 +43,12 @@ fn past_words(marks: &[u64], from: usize) -> usize
     ensures { Full marks.now (64 * from) (64 * result) × (result ≤ 20000) }
 {
     let n = words(marks);
-    let mut w = from;
-    while w < n {
-        if marks[w] != 18446744073709551615 {
+    for w in from..n {
+        if marks[w] != u64::MAX {
             return w;
         }
-        w += 1;
     }
-    w
+    from.max(n)
 }
 
 // The end of the marked records from `a` on: the rest of a word, whole words, the front of a word.
@@ -75,34 +68,34 @@ pub fn past_ones(marks: &[u64], a: usize) -> usize
 fn reached(marks: &[u64], b: usize) -> usize
     ensures { result ≤ b }
 {
-    let n = words(marks);
-    if b / 64 < n {
-        return b;
-    }
-    if n == 0 {
-        return 0;
-    }
-    64 * n - 1
+    b.min((64 * words(marks)).saturating_sub(1))
 }
 
-// A guess: one above the highest marked record up to `b`, found in the words down to that of `a`.
-fn above_mark(marks: &[u64], a: usize, b: usize) -> usize
+// The record of the highest mark of word `w`, whose bits are `v`.
+fn top(w: usize, v: u64) -> usize
+    requires { (w ≤ 20000) × (0 < v) }
+{
+    64 * w + v.ilog2() as usize
+}
+
+// A guess: the highest marked record up to `b`, found in the words down to that of `a`.
+fn last_mark(marks: &[u64], a: usize, b: usize) -> Option<usize>
     requires { b ≤ 1200000 }
 {
-    let low = a / 64;
-    let mut w = b / 64;
-    if marks.len() <= w {
-        return a;
+    let last = b / 64;
+    if marks.len() <= last {
+        return None;
     }
-    let mut v = marks[w] & (18446744073709551615 >> (63 - b % 64));
-    while v == 0 {
-        if w <= low {
-            return a;
+    let v = marks[last] & (u64::MAX >> (63 - b % 64));
+    if v != 0 {
+        return Some(top(last, v));
+    }
+    for w in (a / 64..last).rev() {
+        if marks[w] != 0 {
+            return Some(top(w, marks[w]));
         }
-        w -= 1;
-        v = marks[w];
     }
-    64 * w + (64 - u64::leading_zeros(v) as usize)
+    None
 }
 
 // The highest marked record of the `k` after record `i`, or `i`: each run of `k` that starts between them holds it.
@@ -111,18 +104,10 @@ fn past_gap(marks: &[u64], i: usize, k: usize) -> usize
     ensures { Blocked marks.now k i result × (result ≤ i + k) }
 {
     let b = reached(marks, i + k);
-    let e = above_mark(marks, i + 1, b);
-    if e <= i + 1 {
-        return i;
+    match last_mark(marks, i + 1, b) {
+        Some(x) if i < x && x <= i + k && taken(marks, x) => x,
+        _ => i,
     }
-    let x = e - 1;
-    if i + k < x {
-        return i;
-    }
-    if !taken(marks, x) {
-        return i;
-    }
-    x
 }
 
 // The last place after `i` to which a marked record lies in each run of `k`, as far as one look shows; `i` where it shows none.
@@ -131,11 +116,8 @@ pub fn past(marks: &[u64], i: usize, k: usize) -> usize
     ensures { Blocked marks.now k i result }
 {
     let j = past_gap(marks, i, k);
-    if j < i + k {
-        return j;
-    }
-    // steps of k are then faster than words
-    if 256 <= k {
+    // at 256 and above, steps of k are faster than words
+    if j < i + k || 256 <= k {
         return j;
     }
     past_ones(marks, j + 1) - 1

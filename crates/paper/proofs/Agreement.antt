@@ -1,4 +1,5 @@
 -- When job and file agree, in plain facts; and what a step comes to in each of its phases.
+use Rattle.std.specs.Prelude.{Ok, Err}
 use Prim.Native.Nat.{ℕ, ◌+◌, ◌-◌, ◌*◌, ◌≤◌, ◌<◌}
 use mathlib.Core.Path.{◌≡◌, refl, sym, ◌∙◌, ap, subst}
 use mathlib.Core.Bool.{Bool, true, false, cond}
@@ -17,8 +18,8 @@ use Rattle.paper.specs.declared.sizes.Sizes.{Sizes}
 use Rattle.paper.specs.declared.refusal.Refusal.{Refusal}
 use Rattle.paper.specs.declared.refusal.Refusal.TheVariants.{Disagrees}
 use Rattle.paper.specs.declared.job.Job.{Job}
-use Rattle.paper.specs.declared.job.Step.{Step}
-use Rattle.paper.specs.declared.job.Step.TheVariants.{Wrote, Refused}
+use Rattle.paper.specs.Answers.{StepAnswer}
+use Rattle.paper.specs.declared.job.Step.TheVariants.{Wrote}
 use Rattle.paper.specs.Sizes.{sizes_of, boot_bytes, record_of, start_of, home_of, room_of, version_of, change_boot}
 use Rattle.paper.specs.Index.{open_of, Booted}
 use Rattle.paper.specs.Store.{Write, perform, count_of, padded_of, sizes_after, entry_after, sizes_write, entry_write, lowers_of, lowered, change_of, total_of}
@@ -120,7 +121,7 @@ module _ (f scan : List ℕ) (j : Job) (no : agrees f scan j ≡ false) where
   unfolding step_job
   job-refused = rw no
 
-  pub answer-refused : step_answer f scan j ≡ Refused Disagrees
+  pub answer-refused : step_answer f scan j ≡ Err Disagrees
   unfolding step_answer
   answer-refused = rw no
 
@@ -227,33 +228,33 @@ module _ (f scan : List ℕ) (j : Job) (z : Sizes) (agree : agrees f scan j ≡ 
 
   -- ---- the answer
 
-  step-answer : step_answer f scan j ≡ cond (has_left z j) (Wrote (write_at f z scan j).record_no (j.written + 1)) (confirm_of f scan j (open_of f))
+  step-answer : step_answer f scan j ≡ cond (has_left z j) (Ok (Wrote (write_at f z scan j).record_no (j.written + 1))) (confirm_of f scan j (open_of f))
   unfolding step_answer
   step-answer =
-      subst (λ (y : Sizes). step_answer f scan j ≡ cond (has_left y j) (Wrote (write_at f y scan j).record_no (j.written + 1)) (confirm_of f scan j (open_of f)))
+      subst (λ (y : Sizes). step_answer f scan j ≡ cond (has_left y j) (Ok (Wrote (write_at f y scan j).record_no (j.written + 1))) (confirm_of f scan j (open_of f)))
       reads (rw agree)
 
-  pub answer-wrote : j.written < total_of z j → step_answer f scan j ≡ Wrote (write_at f z scan j).record_no (j.written + 1)
+  pub answer-wrote : j.written < total_of z j → step_answer f scan j ≡ Ok (Wrote (write_at f z scan j).record_no (j.written + 1))
   answer-wrote h = step-answer ∙ rw (left_is h)
 
   -- a third write is one of the writes
   left-lower : j.written ≡ count_of z j + 2 → lowers_of j ≡ true → j.written < total_of z j
   left-lower h t = omega (arith, change-lowers z j t)
 
-  pub answer-row : j.written < count_of z j → step_answer f scan j ≡ Wrote (j.first + j.written) (j.written + 1)
-  answer-row h = answer-wrote (omega arith) ∙ ap (λ (w : Write). Wrote w.record_no (j.written + 1)) (writes-row f z j scan j.written h)
+  pub answer-row : j.written < count_of z j → step_answer f scan j ≡ Ok (Wrote (j.first + j.written) (j.written + 1))
+  answer-row h = answer-wrote (omega arith) ∙ ap (λ (w : Write). Ok (Wrote w.record_no (j.written + 1))) (writes-row f z j scan j.written h)
 
-  pub answer-boot : j.written ≡ count_of z j → step_answer f scan j ≡ Wrote 1 (j.written + 1)
-  answer-boot h = answer-wrote (omega arith) ∙ ap (λ (w : Write). Wrote w.record_no (j.written + 1)) (writes-boot f z j scan j.written h)
+  pub answer-boot : j.written ≡ count_of z j → step_answer f scan j ≡ Ok (Wrote 1 (j.written + 1))
+  answer-boot h = answer-wrote (omega arith) ∙ ap (λ (w : Write). Ok (Wrote w.record_no (j.written + 1))) (writes-boot f z j scan j.written h)
 
-  pub answer-entry : j.written ≡ count_of z j + 1 → step_answer f scan j ≡ Wrote (record_of z j.slot) (j.written + 1)
-  answer-entry h = answer-wrote (omega arith) ∙ ap (λ (w : Write). Wrote w.record_no (j.written + 1)) (writes-entry f z j scan j.written h)
+  pub answer-entry : j.written ≡ count_of z j + 1 → step_answer f scan j ≡ Ok (Wrote (record_of z j.slot) (j.written + 1))
+  answer-entry h = answer-wrote (omega arith) ∙ ap (λ (w : Write). Ok (Wrote w.record_no (j.written + 1))) (writes-entry f z j scan j.written h)
 
-  pub answer-lower : j.written ≡ count_of z j + 2 → lowers_of j ≡ true → step_answer f scan j ≡ Wrote 1 (j.written + 1)
-  answer-lower h t = answer-wrote (left-lower h t) ∙ ap (λ (w : Write). Wrote w.record_no (j.written + 1)) (writes_lower f z j scan j.written h t)
+  pub answer-lower : j.written ≡ count_of z j + 2 → lowers_of j ≡ true → step_answer f scan j ≡ Ok (Wrote 1 (j.written + 1))
+  answer-lower h t = answer-wrote (left-lower h t) ∙ ap (λ (w : Write). Ok (Wrote w.record_no (j.written + 1))) (writes_lower f z j scan j.written h t)
 
-  pub answer-zero : (m : ℕ) → j.written ≡ change_of z j + m → m < j.many → step_answer f scan j ≡ Wrote (j.old + m) (j.written + 1)
-  answer-zero m e h = answer-wrote (omega arith) ∙ ap (λ (w : Write). Wrote w.record_no (j.written + 1)) (writes-zero f z j scan j.written m e h)
+  pub answer-zero : (m : ℕ) → j.written ≡ change_of z j + m → m < j.many → step_answer f scan j ≡ Ok (Wrote (j.old + m) (j.written + 1))
+  answer-zero m e h = answer-wrote (omega arith) ∙ ap (λ (w : Write). Ok (Wrote w.record_no (j.written + 1))) (writes-zero f z j scan j.written m e h)
 
   pub answer-past : total_of z j ≤ j.written → step_answer f scan j ≡ confirm_of f scan j (open_of f)
   answer-past h = step-answer ∙ rw (none_left h)
@@ -272,6 +273,6 @@ module _ (f scan : List ℕ) (j : Job) (z : Sizes) where
   standing h = true-all (stand_tests f scan j z) (true_same h.entry, (true_same h.rows, (true_same h.gone, tt)))
 
 -- a step's answer and job
-pub stepped : (f scan : List ℕ) (j k : Job) (a : Step) → step_answer f scan j ≡ a → step_job f scan j ≡ k → stepped_of f scan j ≡ record { answer = a; job = k }
+pub stepped : (f scan : List ℕ) (j k : Job) (a : StepAnswer) → step_answer f scan j ≡ a → step_job f scan j ≡ k → stepped_of f scan j ≡ record { answer = a; job = k }
 unfolding stepped_of
 stepped f scan j k a p q = rw (p, q)

@@ -1,4 +1,5 @@
 -- Number and values determine the answer: of every answer's definition in the paper's numbers there is a way back.
+use Rattle.std.specs.Prelude.{Ok, Err}
 use Prim.Native.Nat.{ℕ, ◌≤◌, ◌<◌}
 use mathlib.Core.Path.{◌≡◌, refl, sym, ◌∙◌, ap}
 use mathlib.Core.Bool.{true, false, cond}
@@ -9,17 +10,7 @@ use lib.ListN.{get_or, get_or-eq_default}
 use borrow.Author.Tests.{ne_eqb}
 use Rattle.paper.specs.declared.refusal.Refusal.{Refusal}
 use Rattle.paper.specs.declared.refusal.Refusal.TheVariants.{TooShort, OldForm, UnknownForm, OutOfRange, PastEnd, BadEntry, AboveUse, SharedRecord, NoSuchSlot, EmptySlot, BadScan, NoEmptySlot, NoRoom, Disagrees, Differs, BadBlank, TooSmall, NotVersionOne, NotConvertible, NotAllCame}
-use Rattle.paper.specs.declared.answer.Opened.{Opened}
-use Rattle.paper.specs.declared.answer.Opened.TheVariants as opened
-use Rattle.paper.specs.declared.answer.Listed.{Listed}
-use Rattle.paper.specs.declared.answer.Listed.TheVariants as listed
-use Rattle.paper.specs.declared.answer.Span.{Span}
-use Rattle.paper.specs.declared.answer.Span.TheVariants as span
-use Rattle.paper.specs.declared.answer.Taken.{Taken}
-use Rattle.paper.specs.declared.answer.Taken.TheVariants as taken
-use Rattle.paper.specs.declared.answer.Asked.{Asked}
-use Rattle.paper.specs.declared.answer.Asked.TheVariants as asked
-use Rattle.paper.specs.declared.job.Step.{Step}
+use Rattle.paper.specs.Answers.{Opened, Listed, Span, Taken, Asked, StepAnswer}
 use Rattle.paper.specs.declared.job.Step.TheVariants as step
 use Rattle.paper.specs.Refusals.{number_of, highest_refusal, value_of, Says, refuses, opened_says, listed_says, span_says, taken_says, asked_says, step_says}
 
@@ -116,69 +107,69 @@ module _ {A : Type 0} (accept : List ℕ → A) (refuse : Refusal → A) where
 
 abbrev opens : List ℕ → Opened
 opens vs =
-    opened.Opens
+    Ok
     (record { n = get_or vs 0 0; d = get_or vs 1 0; l = get_or vs 2 0; m = get_or vs 3 0; u = get_or vs 4 0; counter = get_or vs 5 0; kind = get_or vs 6 0; version = get_or vs 7 0 })
 
-undo-opened : (a : Opened) → answer_at opens opened.Refused (opened_says a) ≡ a
-undo-opened (opened.Opens z) = refl
-undo-opened (opened.Refused r) = undo-refused opens opened.Refused r
+undo-opened : (a : Opened) → answer_at opens Err (opened_says a) ≡ a
+undo-opened (Ok z) = refl
+undo-opened (Err r) = undo-refused opens Err r
 
 pub opened-only : (a b : Opened) → opened_says a ≡ opened_says b → a ≡ b
-opened-only = only opened_says (answer_at opens opened.Refused) undo-opened
+opened-only = only opened_says (answer_at opens Err) undo-opened
 
 abbrev scans : List ℕ → Listed
-scans vs = listed.Scans (get_or vs 0 0)
+scans vs = Ok (get_or vs 0 0)
 
-undo-listed : (a : Listed) → answer_at scans listed.Refused (listed_says a) ≡ a
-undo-listed (listed.Scans n) = refl
-undo-listed (listed.Refused r) = undo-refused scans listed.Refused r
+undo-listed : (a : Listed) → answer_at scans Err (listed_says a) ≡ a
+undo-listed (Ok n) = refl
+undo-listed (Err r) = undo-refused scans Err r
 
 pub listed-only : (a b : Listed) → listed_says a ≡ listed_says b → a ≡ b
-listed-only = only listed_says (answer_at scans listed.Refused) undo-listed
+listed-only = only listed_says (answer_at scans Err) undo-listed
 
 abbrev part : List ℕ → Span
-part vs = span.Part (get_or vs 0 0) (get_or vs 1 0)
+part vs = Ok (get_or vs 0 0, get_or vs 1 0)
 
-undo-span : (a : Span) → answer_at part span.Refused (span_says a) ≡ a
-undo-span (span.Part from to) = refl
-undo-span (span.Refused r) = undo-refused part span.Refused r
+undo-span : (a : Span) → answer_at part Err (span_says a) ≡ a
+undo-span (Ok (from, to)) = refl
+undo-span (Err r) = undo-refused part Err r
 
 pub span-only : (a b : Span) → span_says a ≡ span_says b → a ≡ b
-span-only = only span_says (answer_at part span.Refused) undo-span
+span-only = only span_says (answer_at part Err) undo-span
 
 abbrev accepted : List ℕ → Taken
-accepted vs = taken.Accepted
+accepted vs = Ok tt
 
-undo-taken : (a : Taken) → answer_at accepted taken.Refused (taken_says a) ≡ a
-undo-taken taken.Accepted = refl
-undo-taken (taken.Refused r) = undo-refused accepted taken.Refused r
+undo-taken : (a : Taken) → answer_at accepted Err (taken_says a) ≡ a
+undo-taken (Ok tt) = refl
+undo-taken (Err r) = undo-refused accepted Err r
 
 pub taken-only : (a b : Taken) → taken_says a ≡ taken_says b → a ≡ b
-taken-only = only taken_says (answer_at accepted taken.Refused) undo-taken
+taken-only = only taken_says (answer_at accepted Err) undo-taken
 
 abbrev is : List ℕ → Asked
-is vs = asked.Is (eqb (get_or vs 0 0) 1)
+is vs = Ok (eqb (get_or vs 0 0) 1)
 
-undo-asked : (a : Asked) → answer_at is asked.Refused (asked_says a) ≡ a
-undo-asked (asked.Is true) = refl
-undo-asked (asked.Is false) = refl
-undo-asked (asked.Refused r) = undo-refused is asked.Refused r
+undo-asked : (a : Asked) → answer_at is Err (asked_says a) ≡ a
+undo-asked (Ok true) = refl
+undo-asked (Ok false) = refl
+undo-asked (Err r) = undo-refused is Err r
 
 pub asked-only : (a b : Asked) → asked_says a ≡ asked_says b → a ≡ b
-asked-only = only asked_says (answer_at is asked.Refused) undo-asked
+asked-only = only asked_says (answer_at is Err) undo-asked
 
 -- by what was done, then record and count
-abbrev done : List ℕ → Step
+abbrev done : List ℕ → StepAnswer
 done vs =
     let r = get_or vs 1 0 in
     let count = get_or vs 2 0 in
-    get_or (step.Wrote r count ∷ step.Saved r count ∷ step.Cleared r count ∷ []) (get_or vs 0 0) (step.Wrote r count)
+    get_or (Ok (step.Wrote r count) ∷ Ok (step.Saved r count) ∷ Ok (step.Cleared r count) ∷ []) (get_or vs 0 0) (Ok (step.Wrote r count))
 
-undo-step : (a : Step) → answer_at done step.Refused (step_says a) ≡ a
-undo-step (step.Wrote r count) = refl
-undo-step (step.Saved r count) = refl
-undo-step (step.Cleared r count) = refl
-undo-step (step.Refused r) = undo-refused done step.Refused r
+undo-step : (a : StepAnswer) → answer_at done Err (step_says a) ≡ a
+undo-step (Ok (step.Wrote r count)) = refl
+undo-step (Ok (step.Saved r count)) = refl
+undo-step (Ok (step.Cleared r count)) = refl
+undo-step (Err r) = undo-refused done Err r
 
-pub step-only : (a b : Step) → step_says a ≡ step_says b → a ≡ b
-step-only = only step_says (answer_at done step.Refused) undo-step
+pub step-only : (a b : StepAnswer) → step_says a ≡ step_says b → a ≡ b
+step-only = only step_says (answer_at done Err) undo-step

@@ -1,4 +1,5 @@
 -- An accepted save, keep or clear: what it was accepted on, and that the job which it hands back is ready to be stepped.
+use Rattle.std.specs.Prelude.{Ok, Err}
 use Prim.Native.Nat.{ℕ, ◌+◌, ◌-◌, ◌*◌, ◌≤◌, ◌<◌}
 use mathlib.Core.Path.{◌≡◌, refl, sym, ◌∙◌, ap, subst}
 use mathlib.Core.Bool.{true, false, not}
@@ -9,7 +10,7 @@ use native.Mathlib.Nat.{add-mul, zero-mul}
 use borrow.Author.Tests.{ltb-false, leb-true, eqb-false, le-ltb, le-leb, ne_eqb, not-false}
 use lib.Dec.{eqb}
 use lib.ListN.{length}
-use Rattle.lent.specs.Checks.{Check, check, Fired, clear, fires, fired, answer, judge}
+use Rattle.lent.specs.Checks.{Check, check, clear, fired}
 use Rattle.lent.specs.Least.{Lowest}
 use Rattle.lent.specs.Lists.{all}
 use Rattle.lent.specs.Part.{part}
@@ -23,15 +24,13 @@ use Rattle.paper.specs.declared.sizes.Sizes.{Sizes}
 use Rattle.paper.specs.declared.sizes.Run.{Run}
 use Rattle.paper.specs.declared.refusal.Refusal.{Refusal}
 use Rattle.paper.specs.declared.refusal.Refusal.TheVariants.{NoEmptySlot}
-use Rattle.paper.specs.declared.answer.Opened.TheVariants.{Opens}
-use Rattle.paper.specs.declared.answer.Ruled.TheVariants.{Keeps}
-use Rattle.paper.specs.declared.answer.Taken.TheVariants.{Accepted}
 use Rattle.paper.specs.declared.job.Job.{Job}
 use Rattle.paper.specs.Sizes.{sizes_of, capacity_of, start_of, room_of}
 use Rattle.paper.specs.Index.{run_of, empty, Full, change_checks, open_of, Lies, Sound, Changeable}
 use Rattle.paper.specs.Scan.{headlen, datalen, ruled_of}
 use Rattle.paper.specs.Look.{slot_tests, no_slot, held_checks, slot_checks, InIndex}
-use Rattle.paper.specs.Store.{records_for, run_from, empty_slot, highest, many_of, old_run, refused, accepted, place_for, saves_at, save_job, clear_job, reason_of, scan_checks, save_of, keep_slot, keep_of, clear_of, data_from, data_writes, sizes_after, entry_after}
+use Rattle.paper.specs.Store.{records_for, run_from, empty_slot, highest, many_of, old_run, place_for, saves_at, save_job, clear_job, reason_of, scan_checks, save_of, keep_slot, keep_of, clear_of, data_from, data_writes, sizes_after, entry_after}
+use Rattle.paper.proofs.Handed.{taken-ok}
 use Rattle.paper.proofs.Opening.{full-facts, facts-full, then-clear, may-change, change-may, empty-lies}
 use Rattle.paper.proofs.Rules.{keeps-lengths}
 use Rattle.paper.proofs.Reasons.{no-reason}
@@ -43,6 +42,7 @@ use Rattle.paper.proofs.Used.{highest-le, full-highest}
 use Rattle.paper.proofs.Bootstrap.{covers_more}
 use Rattle.paper.proofs.IndexLaw.{Alone}
 use Rattle.paper.proofs.Ready.{Ready}
+use Rattle.paper.specs.Answers.{taken_in}
 
 -- a job that is ready to be stepped
 pub record Begins (z : Sizes) (f scan : List ℕ) (j : Job) : Type 0 where
@@ -229,21 +229,9 @@ module _ {f : List ℕ} {z : Sizes} (S : Sound f z) (v : z.version ≡ 1) (slot 
 
 -- ---- what is accepted, both ways
 
--- a beginning is accepted where none of its checks fires
-module _ (cs : List (Check Refusal)) (j : Job) where
-  taken-clear : (judge refused cs (accepted j)).answer ≡ Accepted → fired cs ≡ clear
-  taken-clear e = go (fired cs) e
-    where
-      go : (x : Fired Refusal) → (answer refused (accepted j) x).answer ≡ Accepted → x ≡ clear
-      go clear e = refl
-      go (fires r) e = let z : ◌≡◌ {A = ℕ} 0 1 = cc in absurd (omega arith)
-
-  clear-taken : fired cs ≡ clear → judge refused cs (accepted j) ≡ accepted j
-  clear-taken e = judge-clear refused cs (accepted j) e
-
 -- 11 and 13: the scan keeps the rules, and there is a place for it
 pub record Placed (f scan : List ℕ) : Type 0 where
-  pub keeps : ruled_of scan true ≡ Keeps (headlen scan) (datalen scan)
+  pub keeps : ruled_of scan true ≡ Ok (headlen scan, datalen scan)
   pub found : place_for f (length scan) ≢ 0
 
 module _ (f scan : List ℕ) where
@@ -276,17 +264,17 @@ module _ (f : List ℕ) (slot : ℕ) (scan about : List ℕ) where
   abbrev save_checks : List (Check Refusal)
   save_checks = no_slot (sizes_of f) slot ∷ scan_checks f scan
 
-  pub save-taken : (save_of f slot scan about).answer ≡ Accepted → SaveTaken f slot scan
+  pub save-taken : taken_in (save_of f slot scan about) ≡ Ok tt → SaveTaken f slot scan
   unfolding save_of
   save-taken e =
-      let p = may-change f save_checks (taken-clear (change_checks f ++ save_checks) (save_job f slot scan about) e) in
+      let p = may-change f save_checks (taken-ok (change_checks f ++ save_checks) (save_job f slot scan about) e) in
       let c = clear-cons _ _ (scan_checks f scan) p.1 in
       record { may = p.0; slotted = slot-facts (sizes_of f) slot c.0; placed = clear-placed f scan c.1 }
 
-  pub taken-save : SaveTaken f slot scan → save_of f slot scan about ≡ accepted (save_job f slot scan about)
+  pub taken-save : SaveTaken f slot scan → save_of f slot scan about ≡ Ok (save_job f slot scan about)
   unfolding save_of
   taken-save h =
-      clear-taken (change_checks f ++ save_checks) (save_job f slot scan about)
+      judge-clear Err (change_checks f ++ save_checks) (Ok (save_job f slot scan about))
       (change-may f save_checks h.may ∙ cons-clear _ _ (scan_checks f scan) (facts-slot (sizes_of f) slot h.slotted) (placed-clear f scan h.placed))
 
 pub record KeepTaken (f scan : List ℕ) : Type 0 where
@@ -298,17 +286,17 @@ module _ (f scan about : List ℕ) where
   abbrev keep_checks : List (Check Refusal)
   keep_checks = check (eqb (keep_slot f) 0) NoEmptySlot ∷ scan_checks f scan
 
-  pub keep_taken : (keep_of f scan about).answer ≡ Accepted → KeepTaken f scan
+  pub keep_taken : taken_in (keep_of f scan about) ≡ Ok tt → KeepTaken f scan
   unfolding keep_of
   keep_taken e =
-      let p = may-change f keep_checks (taken-clear (change_checks f ++ keep_checks) (save_job f (keep_slot f) scan about) e) in
+      let p = may-change f keep_checks (taken-ok (change_checks f ++ keep_checks) (save_job f (keep_slot f) scan about) e) in
       let c = clear-cons _ _ (scan_checks f scan) p.1 in
       record { may = p.0; slotted = eqb-false _ _ c.0; placed = clear-placed f scan c.1 }
 
-  pub taken-keep : KeepTaken f scan → keep_of f scan about ≡ accepted (save_job f (keep_slot f) scan about)
+  pub taken-keep : KeepTaken f scan → keep_of f scan about ≡ Ok (save_job f (keep_slot f) scan about)
   unfolding keep_of
   taken-keep h =
-      clear-taken (change_checks f ++ keep_checks) (save_job f (keep_slot f) scan about)
+      judge-clear Err (change_checks f ++ keep_checks) (Ok (save_job f (keep_slot f) scan about))
       (change-may f keep_checks h.may ∙ cons-clear _ _ (scan_checks f scan) (ne_eqb (keep_slot f) 0 h.slotted) (placed-clear f scan h.placed))
 
 -- "keep a scan in the lowest empty slot": one of the index's
@@ -321,7 +309,7 @@ keep-slotted f h =
 
 -- of entry, show and read: a slot that holds a scan
 pub record SlotTaken (f : List ℕ) (slot : ℕ) : Type 0 where
-  pub opens : open_of f ≡ Opens (sizes_of f)
+  pub opens : open_of f ≡ Ok (sizes_of f)
   pub slotted : InIndex (sizes_of f) slot
   pub full : Full (run_of f (sizes_of f) slot)
 
@@ -344,17 +332,17 @@ module _ (f : List ℕ) (slot : ℕ) where
       let h = held-facts p.1 in
       record { opens = p.0; slotted = h.0; full = h.1 }
 
-  pub clear-is-taken : (clear_of f slot).answer ≡ Accepted → ClearTaken f slot
+  pub clear-is-taken : taken_in (clear_of f slot) ≡ Ok tt → ClearTaken f slot
   unfolding clear_of
   clear-is-taken e =
-      let p = may-change f (held_checks f slot) (taken-clear (change_checks f ++ held_checks f slot) (clear_job f slot) e) in
+      let p = may-change f (held_checks f slot) (taken-ok (change_checks f ++ held_checks f slot) (clear_job f slot) e) in
       let h = held-facts p.1 in
       record { may = p.0; slotted = h.0; full = h.1 }
 
-  pub taken-is-clear : ClearTaken f slot → clear_of f slot ≡ accepted (clear_job f slot)
+  pub taken-is-clear : ClearTaken f slot → clear_of f slot ≡ Ok (clear_job f slot)
   unfolding clear_of
   taken-is-clear h =
-      clear-taken (change_checks f ++ held_checks f slot) (clear_job f slot) (change-may f (held_checks f slot) h.may ∙ facts-held h.slotted h.full)
+      judge-clear Err (change_checks f ++ held_checks f slot) (Ok (clear_job f slot)) (change-may f (held_checks f slot) h.may ∙ facts-held h.slotted h.full)
 
 -- ---- and so the job is ready
 

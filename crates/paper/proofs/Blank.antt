@@ -1,4 +1,5 @@
 -- An accepted blank: the file opens with the sizes given and lists nothing; and where a data record has room there is a place for a scan.
+use Rattle.std.specs.Prelude.{Ok, Err}
 use Prim.Native.Nat.{ℕ, ◌+◌, ◌-◌, ◌*◌, ◌≤◌}
 use mathlib.Core.Path.{◌≡◌, refl, sym, ◌∙◌, ap}
 use mathlib.Core.Bool.{not}
@@ -8,18 +9,17 @@ use native.Mathlib.Omega.{arith}
 use native.Mathlib.Nat.{add-zero, zero-add}
 use borrow.Author.Tests.{leb-true, le-leb, not-false}
 use lib.ListN.{length, drop}
-use Rattle.lent.specs.Checks.{Fired, clear, fires, fired, answer}
+use Rattle.lent.specs.Checks.{clear, fired}
 use Rattle.lent.specs.Number.{big, be32}
 use Rattle.lent.specs.Write.{write, pad, zeros}
 use Rattle.lent.proofs.Lists.{true≢false, all_true, true-all}
 use Rattle.lent.proofs.Leasts.{none-least}
-use Rattle.lent.proofs.Checks.{clear-all, all-clear, judge-clear}
+use Rattle.lent.proofs.Checks.{clear-all, all-clear, judge-clear, judged-ok}
 use Rattle.lent.proofs.Numbers.{number_in, number-pad, number_past}
 use Rattle.lent.proofs.Writes.{length-write, length-pad}
 use Rattle.paper.specs.declared.sizes.Sizes.{Sizes}
 use Rattle.paper.specs.declared.sizes.Run.{Run}
 use Rattle.paper.specs.declared.refusal.Refusal.{Refusal}
-use Rattle.paper.specs.declared.answer.Taken.TheVariants.{Accepted, Refused}
 use Rattle.paper.specs.Sizes.{sizes_of, version_of, boot_bytes, capacity_of, home_of, room_of, Ranged}
 use Rattle.paper.specs.Index.{run_of, Sound}
 use Rattle.paper.specs.Store.{blank_sizes, blank_tests, blank_checks, blank_of, blank_file, free_at, free_place, Blankable}
@@ -33,15 +33,11 @@ module _ (f : List ℕ) (n l m : ℕ) where
   abbrev z : Sizes
   z = blank_sizes n l m
 
-  blank-clear : blank_of f n l m ≡ Accepted → fired (blank_checks f (blank_sizes n l m)) ≡ clear
+  blank-clear : blank_of f n l m ≡ Ok tt → fired (blank_checks f (blank_sizes n l m)) ≡ clear
   unfolding blank_of
-  blank-clear e = go (fired (blank_checks f z)) e
-    where
-      go : (x : Fired Refusal) → answer Refused Accepted x ≡ Accepted → x ≡ clear
-      go clear e = refl
-      go (fires r) e = let y : ◌≡◌ {A = ℕ} 0 1 = cc in absurd (omega arith)
+  blank-clear e = (judged-ok (blank_checks f z) tt e).0
 
-  pub blank-facts : blank_of f n l m ≡ Accepted → Blankable f (blank_sizes n l m)
+  pub blank-facts : blank_of f n l m ≡ Ok tt → Blankable f (blank_sizes n l m)
   blank-facts e =
       let c = clear-all (blank_checks f z) (blank-clear e) in
       let t = all_true (blank_tests (length f) z) (not-false _ c.0) in
@@ -51,9 +47,9 @@ module _ (f : List ℕ) (n l m : ℕ) where
   facts-clear h =
       all-clear (blank_checks f z) (ap not (true-all (blank_tests (length f) z) (facts-shaped z h.shape, (le-leb _ _ h.fits, tt))), tt)
 
-  pub facts-blank : Blankable f (blank_sizes n l m) → blank_of f n l m ≡ Accepted
+  pub facts-blank : Blankable f (blank_sizes n l m) → blank_of f n l m ≡ Ok tt
   unfolding blank_of
-  facts-blank h = judge-clear Refused (blank_checks f z) Accepted (facts-clear h)
+  facts-blank h = judge-clear Err (blank_checks f z) (Ok tt) (facts-clear h)
 
   pub blank-file : Blankable f (blank_sizes n l m) → blank_file f n l m ≡ write f 0 (pad (n * l) (boot_bytes (blank_sizes n l m)))
   unfolding blank_file

@@ -1,4 +1,5 @@
 -- Where the classes and the data of a scan that keeps the rules lie: no class is empty, all lie between byte 32 and HEADLEN; then the data.
+use Rattle.std.specs.Prelude.{Ok, Err}
 use Prim.Native.Nat.{ℕ, zero, suc, ◌+◌, ◌-◌, ◌*◌, ◌≤◌, ◌<◌}
 use mathlib.Core.Path.{◌≡◌, refl, sym, ◌∙◌, ap, subst}
 use mathlib.Core.Bool.{Bool, false}
@@ -11,8 +12,6 @@ use lib.Seq.{length-take-le, get_or-take}
 use borrow.Author.Tests.{le-leb, lt-leb, eq-eqb, ne_eqb}
 use Rattle.lent.specs.Number.{be16, int16}
 use Rattle.lent.proofs.Lists.{lt-or-ge, table_at}
-use Rattle.paper.specs.declared.answer.Ruled.TheVariants.{Keeps, Breaks}
-use Rattle.paper.specs.declared.answer.Span.TheVariants.{Part, Refused}
 use Rattle.paper.specs.declared.refusal.Refusal.TheVariants.{BadScan}
 use Rattle.paper.specs.Entry.{natural_of}
 use Rattle.paper.specs.Scan.{classes_of, starts_of, word_of, ruled_of, class_at, class_end, class_in, class_of, data_of, last_of, Kept}
@@ -85,15 +84,15 @@ module _ (s : List ℕ) {saving : Bool} {head rest : ℕ} (k : Kept s saving hea
 -- ---- a class by its number
 
 module _ (starts : List ℤ) (n head number : ℕ) where
-  pub class-here : 1 ≤ number → number ≤ n → class_in starts n head number ≡ Part (class_at starts (number - 1)) (class_end starts n head number)
+  pub class-here : 1 ≤ number → number ≤ n → class_in starts n head number ≡ Ok (class_at starts (number - 1), class_end starts n head number)
   unfolding class_in
   class-here a b = simp (le-leb 1 number a, le-leb number n b)
 
-  pub class-above : n < number → class_in starts n head number ≡ Part 0 0
+  pub class-above : n < number → class_in starts n head number ≡ Ok (0, 0)
   unfolding class_in
   class-above h = simp (le-leb 1 number (omega arith), lt-leb number n h)
 
-pub class-below : (starts : List ℤ) (n head : ℕ) → class_in starts n head 0 ≡ Part 0 0
+pub class-below : (starts : List ℤ) (n head : ℕ) → class_in starts n head 0 ≡ Ok (0, 0)
 unfolding class_in
 class-below starts n head = refl
 
@@ -106,27 +105,27 @@ start-at s k a b =
 
 -- ---- what a class and the data answer
 
-module _ (s : List ℕ) {head rest : ℕ} (e : ruled_of s false ≡ Keeps head rest) where
+module _ (s : List ℕ) {head rest : ℕ} (e : ruled_of s false ≡ Ok (head, rest)) where
   pub class-in : (number : ℕ) → class_of s number ≡ class_in (starts_of s) (classes_of s) head number
   unfolding class_of
   class-in number = rw e
 
-  pub data_is : data_of s ≡ Part head (head + rest)
+  pub data_is : data_of s ≡ Ok (head, head + rest)
   unfolding data_of
   data_is = rw e
 
 -- "11 where rules 1 to 5 are broken"
-module _ (s : List ℕ) {reason : ℕ} (e : ruled_of s false ≡ Breaks reason) where
-  pub class-refused : (number : ℕ) → class_of s number ≡ Refused (BadScan reason)
+module _ (s : List ℕ) {reason : ℕ} (e : ruled_of s false ≡ Err reason) where
+  pub class-refused : (number : ℕ) → class_of s number ≡ Err (BadScan reason)
   unfolding class_of
   class-refused number = rw e
 
-  pub data-refused : data_of s ≡ Refused (BadScan reason)
+  pub data-refused : data_of s ≡ Err (BadScan reason)
   unfolding data_of
   data-refused = rw e
 
 -- what a read answers, HEADLEN + DATALEN bytes, keeps the rules by itself
-pub rules-taken : (s : List ℕ) (saving : Bool) {head rest : ℕ} → ruled_of s saving ≡ Keeps head rest → ruled_of (take (head + rest) s) false ≡ Keeps head rest
+pub rules-taken : (s : List ℕ) (saving : Bool) {head rest : ℕ} → ruled_of s saving ≡ Ok (head, rest) → ruled_of (take (head + rest) s) false ≡ Ok (head, rest)
 rules-taken s saving {head} {rest} e =
     let k = kept e in
     let l = length-take-le (head + rest) s (omega arith) in

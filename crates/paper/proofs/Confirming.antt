@@ -1,4 +1,5 @@
 -- What a step that answers Saved or Cleared has found in the file lent to it.
+use Rattle.std.specs.Prelude.{Ok, Err}
 use Prim.Native.Nat.{ℕ, ◌+◌, ◌-◌, ◌*◌, ◌≤◌}
 use mathlib.Core.Path.{◌≡◌, refl, sym, ◌∙◌, ap, subst}
 use mathlib.Core.Bool.{Bool, true, false, cond}
@@ -14,12 +15,9 @@ use Rattle.lent.proofs.Parts.{part_none}
 use Rattle.paper.specs.declared.sizes.Sizes.{Sizes}
 use Rattle.paper.specs.declared.sizes.Run.{Run}
 use Rattle.paper.specs.declared.refusal.Refusal.TheVariants.{Disagrees, Differs}
-use Rattle.paper.specs.declared.answer.Opened.{Opened}
-use Rattle.paper.specs.declared.answer.Opened.TheVariants as opened
-use Rattle.paper.specs.declared.answer.Opened.TheVariants.{Opens}
+use Rattle.paper.specs.Answers.{Opened, StepAnswer}
 use Rattle.paper.specs.declared.job.Job.{Job}
-use Rattle.paper.specs.declared.job.Step.{Step}
-use Rattle.paper.specs.declared.job.Step.TheVariants.{Wrote, Saved, Cleared, Refused}
+use Rattle.paper.specs.declared.job.Step.TheVariants.{Wrote, Saved, Cleared}
 use Rattle.paper.specs.Sizes.{sizes_of, start_of}
 use Rattle.paper.specs.Index.{run_of, shown_of, entry_at, open_of}
 use Rattle.paper.specs.Entry.{entry_bytes}
@@ -33,18 +31,18 @@ use Rattle.paper.proofs.Agreement.{agreed, stood}
 pub record Confirms (f scan : List ℕ) (j : Job) (z : Sizes) : Type 0 where
   pub agreeing : Agreeing f scan j z
   pub done : j.written ≡ total_of z j
-  pub opens : open_of f ≡ Opens z
+  pub opens : open_of f ≡ Ok z
   pub standing : Standing f scan j z
 
 -- a save is confirmed by Saved, a clear by Cleared
-abbrev ending : Bool → ℕ → ℕ → Step
-ending saves r c = cond saves (Saved r c) (Cleared r c)
+abbrev ending : Bool → ℕ → ℕ → StepAnswer
+ending saves r c = cond saves (Ok (Saved r c)) (Ok (Cleared r c))
 
-abbrev is_saved : Step → Bool
-is_saved (Wrote r count) = false
-is_saved (Saved r count) = true
-is_saved (Cleared r count) = false
-is_saved (Refused r) = false
+abbrev is_saved : StepAnswer → Bool
+is_saved (Ok (Wrote r count)) = false
+is_saved (Ok (Saved r count)) = true
+is_saved (Ok (Cleared r count)) = false
+is_saved (Err r) = false
 
 ending-confirms : (saves : Bool) (r c : ℕ) → is_confirmed (ending saves r c) ≡ true
 ending-confirms true r c = refl
@@ -54,36 +52,36 @@ ending-saves : (saves : Bool) (r c : ℕ) → is_saved (ending saves r c) ≡ sa
 ending-saves true r c = refl
 ending-saves false r c = refl
 
-never : (x s : Step) → is_confirmed x ≡ false → is_confirmed s ≡ true → x ≡ s → ⊥
+never : (x s : StepAnswer) → is_confirmed x ≡ false → is_confirmed s ≡ true → x ≡ s → ⊥
 never x s p q e = true≢false q (ap is_confirmed (sym e) ∙ p)
 
 module _ (f scan : List ℕ) (j : Job) where
-  pub record Came (s : Step) : Type 0 where
+  pub record Came (s : StepAnswer) : Type 0 where
     pub z : Sizes
     pub facts : Confirms f scan j z
     pub is : s ≡ confirmed j
 
-  facts : (z : Sizes) → agrees f scan j ≡ true → has_left (sizes_of f) j ≡ false → open_of f ≡ Opens z → stands f scan j z ≡ true → Confirms f scan j z
+  facts : (z : Sizes) → agrees f scan j ≡ true → has_left (sizes_of f) j ≡ false → open_of f ≡ Ok z → stands f scan j z ≡ true → Confirms f scan j z
   facts z p q e t =
       let r : sizes_of f ≡ z = open-reads f e in
       let a : Agreeing f scan j z = subst (Agreeing f scan j) r (agreed f scan j p) in
       let n : total_of z j ≤ j.written = subst (λ (y : Sizes). total_of y j ≤ j.written) r (ltb-false j.written (total_of (sizes_of f) j) q) in
       record { agreeing = a; done = omega (arith, a.left); opens = e; standing = stood f scan j z t }
 
-  stood-came : (z : Sizes) (b : Bool) (s : Step) → (b ≡ true → Confirms f scan j z) → cond b (confirmed j) (Refused Differs) ≡ s → is_confirmed s ≡ true → Came s
+  stood-came : (z : Sizes) (b : Bool) (s : StepAnswer) → (b ≡ true → Confirms f scan j z) → cond b (confirmed j) (Err Differs) ≡ s → is_confirmed s ≡ true → Came s
   stood-came z true s k h c = record { z = z; facts = k refl; is = sym h }
-  stood-came z false s k h c = absurd (never (Refused Differs) s refl c h)
+  stood-came z false s k h c = absurd (never (Err Differs) s refl c h)
 
   -- by what the step came to
-  came : (a left : Bool) (o : Opened) (s : Step) → agrees f scan j ≡ a → has_left (sizes_of f) j ≡ left → open_of f ≡ o
-      → cond a (cond left (Wrote (write_at f (sizes_of f) scan j).record_no (j.written + 1)) (confirm_of f scan j o)) (Refused Disagrees) ≡ s
+  came : (a left : Bool) (o : Opened) (s : StepAnswer) → agrees f scan j ≡ a → has_left (sizes_of f) j ≡ left → open_of f ≡ o
+      → cond a (cond left (Ok (Wrote (write_at f (sizes_of f) scan j).record_no (j.written + 1))) (confirm_of f scan j o)) (Err Disagrees) ≡ s
       → is_confirmed s ≡ true → Came s
-  came false left o s p q e h c = absurd (never (Refused Disagrees) s refl c h)
-  came true true o s p q e h c = absurd (never (Wrote (write_at f (sizes_of f) scan j).record_no (j.written + 1)) s refl c h)
-  came true false (opened.Refused r) s p q e h c = absurd (never (Refused r) s refl c h)
-  came true false (opened.Opens z) s p q e h c = stood-came z (stands f scan j z) s (facts z p q e) h c
+  came false left o s p q e h c = absurd (never (Err Disagrees) s refl c h)
+  came true true o s p q e h c = absurd (never (Ok (Wrote (write_at f (sizes_of f) scan j).record_no (j.written + 1))) s refl c h)
+  came true false (Err r) s p q e h c = absurd (never (Err r) s refl c h)
+  came true false (Ok z) s p q e h c = stood-came z (stands f scan j z) s (facts z p q e) h c
 
-  pub confirm-came : (s : Step) → step_answer f scan j ≡ s → is_confirmed s ≡ true → Came s
+  pub confirm-came : (s : StepAnswer) → step_answer f scan j ≡ s → is_confirmed s ≡ true → Came s
   unfolding step_answer
   confirm-came s h c = came (agrees f scan j) (has_left (sizes_of f) j) (open_of f) s refl refl refl h c
 

@@ -1,4 +1,5 @@
 -- A conversion is accepted exactly under its facts, and what each refusal's test says.
+use Rattle.std.specs.Prelude.{Ok, Err}
 use Prim.Native.Nat.{ℕ, ◌+◌, ◌*◌, ◌≤◌}
 use mathlib.Core.Path.{◌≡◌, sym, ◌∙◌, ap, subst}
 use mathlib.Core.Bool.{Bool, false, not}
@@ -12,11 +13,10 @@ use Rattle.lent.specs.Number.{be16}
 use Rattle.lent.specs.Write.{write}
 use Rattle.lent.proofs.Lists.{All, all_true, true-all, true≢false, not_so, is-so, also-true, true-also}
 use Rattle.lent.proofs.Leasts.{none-test, test-none}
-use Rattle.lent.proofs.Checks.{clear-all, all-clear, clear-cons, cons-clear, judge-clear, judge-passed}
+use Rattle.lent.proofs.Checks.{clear-all, all-clear, clear-cons, cons-clear, judge-clear, judged-ok}
 use Rattle.paper.specs.declared.sizes.Sizes.{Sizes}
 use Rattle.paper.specs.declared.sizes.Run.{Run}
 use Rattle.paper.specs.declared.refusal.Refusal.{Refusal}
-use Rattle.paper.specs.declared.answer.Taken.TheVariants.{Accepted, Refused}
 use Rattle.paper.specs.Sizes.{sizes_of, home_of}
 use Rattle.paper.specs.Index.{run_of, Full, Sound}
 use Rattle.paper.specs.Convert.{carried_at, records_as, too-small, magic_tests, other_magic, narrow_tests, wide_run, going_old, form_checks, convert_checks, convert_of, converted_out, Sayable, Convertible}
@@ -95,18 +95,15 @@ module _ (v : ℕ) (f : List ℕ) (z : Sizes) where
 
 -- ---- the call
 
-never : (r : Refusal) → Refused r ≡ Accepted → ⊥
-never r e = let x : ◌≡◌ {A = ℕ} 0 1 = cc in omega arith
-
 module _ (v : ℕ) (f out : List ℕ) where
   -- what is asked after open's own
   abbrev own : List (Check Refusal)
   own = too-small out (sizes_of f) ∷ form_checks v f (sizes_of f)
 
-  pub convert-taken : convert_of v f out ≡ Accepted → Convertible v f out (sizes_of f)
+  pub convert-taken : convert_of v f out ≡ Ok tt → Convertible v f out (sizes_of f)
   unfolding convert_of
   convert-taken e =
-      let p = then-clear f own (judge-passed Refused (convert_checks v f out) Accepted Accepted never e).0 in
+      let p = then-clear f own (judged-ok (convert_checks v f out) tt e).0 in
       let S : Sound f (sizes_of f) = open-sound p.0 in
       let c = clear-cons _ _ (form_checks v f (sizes_of f)) p.1 in
       let q = form-facts v f (sizes_of f) S.booted.ranged.known c.1 in
@@ -118,9 +115,9 @@ module _ (v : ℕ) (f out : List ℕ) where
       ∙ subst (λ (y : Sizes). fired (too-small out y ∷ form_checks v f y) ≡ clear) (sym C.sound.booted.reads)
       (cons-clear _ _ (form_checks v f z) (le-ltb (length out) (z.n * z.l) C.room) (facts-form v f z C.other C.sayable))
 
-  pub taken-convert : {z : Sizes} → Convertible v f out z → convert_of v f out ≡ Accepted
+  pub taken-convert : {z : Sizes} → Convertible v f out z → convert_of v f out ≡ Ok tt
   unfolding convert_of
-  taken-convert C = judge-clear Refused (convert_checks v f out) Accepted (clear-taken C)
+  taken-convert C = judge-clear Err (convert_checks v f out) (Ok tt) (clear-taken C)
 
   -- what it leaves in the second buffer
   pub taken_out : {z : Sizes} → Convertible v f out z → converted_out v f out ≡ write out 0 (records_as v z (carried_at f z))

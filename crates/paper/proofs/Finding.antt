@@ -1,4 +1,5 @@
 -- The laws of what is found: from a record on, with no word of turns; what it is to be found or passed over, in plain facts; and that a window on the file finds the same.
+use Rattle.std.specs.Prelude.{Ok, Err}
 use Prim.Native.Nat.{ℕ, zero, suc, ◌+◌, ◌-◌, ◌*◌, ◌/◌, ◌≤◌, ◌<◌}
 use mathlib.Core.Path.{◌≡◌, refl, sym, ◌∙◌, ap}
 use mathlib.Core.Bool.{Bool, false, cond}
@@ -21,9 +22,7 @@ use Rattle.lent.proofs.Numbers.{number_same, number-part, number-zeros}
 use Rattle.paper.specs.declared.sizes.Sizes.{Sizes}
 use Rattle.paper.specs.declared.refusal.Refusal.{Refusal}
 use Rattle.paper.specs.declared.refusal.Refusal.TheVariants.{TooSmall}
-use Rattle.paper.specs.declared.answer.Listed.TheVariants.{Scans, Refused}
-use Rattle.paper.specs.declared.answer.Ruled.{Ruled}
-use Rattle.paper.specs.declared.answer.Ruled.TheVariants.{Keeps, Breaks}
+use Rattle.paper.specs.Answers.{Ruled}
 use Rattle.paper.specs.Sizes.{sizes_of, start_of, bytes_of, boot_checks}
 use Rattle.paper.specs.Index.{Booted}
 use Rattle.paper.specs.Scan.{classes_of, ruled_of, Rule2, Kept}
@@ -100,7 +99,7 @@ head-some {s} k =
 pub record Begins (f : List ℕ) (z : Sizes) (r many : ℕ) : Type 0 where
   pub head : ℕ
   pub rest : ℕ
-  pub rules : ruled_of (rest_from f z r) false ≡ Keeps head rest
+  pub rules : ruled_of (rest_from f z r) false ≡ Ok (head, rest)
   pub records : records_for z (head + rest) ≡ many
 
 module _ (f : List ℕ) (z : Sizes) (r : ℕ) where
@@ -109,8 +108,8 @@ module _ (f : List ℕ) (z : Sizes) (r : ℕ) where
   takes-facts k e = go (ruled_of (rest_from f z r) false) refl e
     where
       go : (x : Ruled) → ruled_of (rest_from f z r) false ≡ x → takes z x ≡ suc k → Begins f z r (suc k)
-      go (Keeps head rest) q t = record { head = head; rest = rest; rules = q; records = t }
-      go (Breaks reason) q t = absurd (omega arith)
+      go (Ok (head, rest)) q t = record { head = head; rest = rest; rules = q; records = t }
+      go (Err reason) q t = absurd (omega arith)
 
   pub facts-takes : (k : ℕ) → Begins f z r k → takes_at f z r ≡ k
   unfolding takes_at
@@ -126,7 +125,7 @@ module _ (f : List ℕ) (z : Sizes) (r : ℕ) where
 
   module _ (B : Booted f z) where
     -- 0 is said of no scan
-    pub takes_none : takes_at f z r ≡ 0 → (head rest : ℕ) → ruled_of (rest_from f z r) false ≡ Keeps head rest → ⊥
+    pub takes_none : takes_at f z r ≡ 0 → (head rest : ℕ) → ruled_of (rest_from f z r) false ≡ Ok (head, rest) → ⊥
     takes_none e head rest q =
         let t = facts-takes (records_for z (head + rest)) (record { head = head; rest = rest; rules = q; records = refl }) in
         omega (arith, some-record z.l (head + rest) (omega (arith, B.ranged.shape.l_low)) (omega (arith, head-some (kept q))))
@@ -249,4 +248,4 @@ module _ (f g : List ℕ) {z : Sizes} (B : Booted f z) (len : length g ≡ lengt
     -- and the search answers and writes the same
     pub window-finds : (report_of g out ≡ report_of f out) × (report_out g out ≡ report_out f out)
     unfolding report_of report_out
-    window-finds = (judged-same Refused (λ xs. Scans (length xs)), judged-same (λ r. out) (λ xs. write out 0 (find_lines xs)))
+    window-finds = (judged-same Err (λ xs. Ok (length xs)), judged-same (λ r. out) (λ xs. write out 0 (find_lines xs)))

@@ -1,4 +1,5 @@
 -- The question of the gaps, in plain facts, both ways.
+use Rattle.std.specs.Prelude.{Ok, Err}
 use Prim.Native.Nat.{ℕ, ◌+◌, ◌≤◌}
 use mathlib.Core.Path.{◌≡◌, refl, ◌∙◌, ap}
 use mathlib.Core.Bool.{true, false, not}
@@ -15,8 +16,6 @@ use Rattle.lent.proofs.Leasts.{least-none, none-least, lowest-least}
 use Rattle.lent.proofs.Sames.{same_true, not_same, true_same}
 use Rattle.paper.specs.declared.sizes.Sizes.{Sizes}
 use Rattle.paper.specs.declared.refusal.Refusal.{Refusal}
-use Rattle.paper.specs.declared.answer.Opened.TheVariants as opened
-use Rattle.paper.specs.declared.answer.Asked.TheVariants.{Is, Refused}
 use Rattle.paper.specs.Sizes.{sizes_of}
 use Rattle.paper.specs.Index.{run_of, open_checks, open_of}
 use Rattle.paper.specs.Store.{run_from}
@@ -89,11 +88,11 @@ module _ (f : List ℕ) (z : Sizes) where
 
   -- ---- the answer
 
-  pub gaps-is : open_of f ≡ opened.Opens z → gaps_of f ≡ Is (gaps_zero f z)
+  pub gaps-is : open_of f ≡ Ok z → gaps_of f ≡ Ok (gaps_zero f z)
   unfolding gaps_of
   gaps-is o =
-      judge-clear Refused (open_checks f) (Is (gaps_zero f (sizes_of f))) (open-clear f o) ∙ ap (λ (y : Sizes). Is (gaps_zero f y)) (open-reads f o)
+      judge-clear Err (open_checks f) (Ok (gaps_zero f (sizes_of f))) (open-clear f o) ∙ ap (λ (y : Sizes). Ok (gaps_zero f y)) (open-reads f o)
 
-pub gaps-refused : (f : List ℕ) {r : Refusal} → open_of f ≡ opened.Refused r → gaps_of f ≡ Refused r
+pub gaps-refused : (f : List ℕ) {r : Refusal} → open_of f ≡ Err r → gaps_of f ≡ Err r
 unfolding gaps_of
-gaps-refused f {r} o = judge-fires Refused (open_checks f) (Is (gaps_zero f (sizes_of f))) r (open-fires f o)
+gaps-refused f {r} o = judge-fires Err (open_checks f) (Ok (gaps_zero f (sizes_of f))) r (open-fires f o)

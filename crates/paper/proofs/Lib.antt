@@ -6,6 +6,7 @@ pub mod Agreement
 pub mod Rules
 pub mod Reasons
 pub mod Answers
+pub mod Handed
 pub mod Table
 pub mod Known
 pub mod Classes

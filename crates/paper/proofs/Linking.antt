@@ -1,4 +1,5 @@
 -- The laws of a link: what a piece leaves in link and row, that two pieces are as good as the one that they make, and what is known of a file whose bytes came.
+use Rattle.std.specs.Prelude.{Ok, Err}
 use Prim.Native.Nat.{ℕ, ◌+◌, ◌-◌, ◌*◌, ◌%◌, ◌≤◌, ◌<◌, min}
 use mathlib.Core.Path.{◌≡◌, refl, sym, ◌∙◌, ap, subst}
 use mathlib.Core.Bool.{Bool, true, false, cond}
@@ -23,8 +24,6 @@ use Rattle.lent.proofs.Numbers.{number-two, number-four}
 use Rattle.paper.specs.declared.sizes.Sizes.{Sizes}
 use Rattle.paper.specs.declared.refusal.Refusal.{Refusal}
 use Rattle.paper.specs.declared.refusal.Refusal.TheVariants.{TooShort, TooSmall, NotAllCame}
-use Rattle.paper.specs.declared.answer.Opened.TheVariants.{Opens, Refused}
-use Rattle.paper.specs.declared.answer.Taken.TheVariants as taken
 use Rattle.paper.specs.declared.link.Link.{Link}
 use Rattle.paper.specs.Sizes.{sizes_of, word_at, capacity_of, home_of, bytes_of, shaped, short, size_checks, word_checks, boot_checks, Shaped}
 use Rattle.paper.specs.Index.{run_of, row_run, boot_of, index_of, open_of, Booted}
@@ -392,20 +391,20 @@ module _ (k : Link) (p row : List ℕ) where
 -- ---- the calls
 
 module _ (len : ℕ) (row : List ℕ) where
-  pub begin-long : 8192 ≤ length row → begin_of len row ≡ record { answer = taken.Accepted; link = fresh_link len }
+  pub begin-long : 8192 ≤ length row → begin_of len row ≡ Ok (fresh_link len)
   unfolding begin_of
   begin-long h = rw (le-ltb (length row) 8192 h)
 
-  pub begin-short : length row < 8192 → begin_of len row ≡ record { answer = taken.Refused TooSmall; link = fresh_link 0 }
+  pub begin-short : length row < 8192 → begin_of len row ≡ Err TooSmall
   unfolding begin_of
   begin-short h = rw (lt-ltb (length row) 8192 h)
 
 module _ (k : Link) (p row : List ℕ) where
-  pub take_long : 8192 ≤ length row → take_of k p row ≡ record { answer = taken.Accepted; link = took_link k p }
+  pub take_long : 8192 ≤ length row → take_of k p row ≡ Ok (took_link k p)
   unfolding take_of
   take_long h = rw (le-ltb (length row) 8192 h)
 
-  pub take_short : length row < 8192 → take_of k p row ≡ record { answer = taken.Refused TooSmall; link = k }
+  pub take_short : length row < 8192 → take_of k p row ≡ Err TooSmall
   unfolding take_of
   take_short h = rw (lt-ltb (length row) 8192 h)
 
@@ -497,28 +496,28 @@ module _ (len : ℕ) (p : List ℕ) where
 
 -- ---- what finish says
 
-pub finish-small : (k : Link) (row : List ℕ) → length row < 8192 → finish_of k row ≡ Refused TooSmall
+pub finish-small : (k : Link) (row : List ℕ) → length row < 8192 → finish_of k row ≡ Err TooSmall
 unfolding finish_of
 finish-small k row h = rw (lt-ltb (length row) 8192 h)
 
 module _ (k : Link) (row : List ℕ) (enough : 8192 ≤ length row) where
-  pub finish-short : k.span < 512 → finish_of k row ≡ Refused TooShort
+  pub finish-short : k.span < 512 → finish_of k row ≡ Err TooShort
   unfolding finish_of
   finish-short h = rw (le-ltb (length row) 8192 enough, lt-ltb k.span 512 h)
 
-  pub finish-early : 512 ≤ k.span → k.came < 32 → finish_of k row ≡ Refused NotAllCame
+  pub finish-early : 512 ≤ k.span → k.came < 32 → finish_of k row ≡ Err NotAllCame
   unfolding finish_of
   finish-early h l = rw (le-ltb (length row) 8192 enough, le-ltb k.span 512 h, lt-ltb k.came 32 l)
 
   -- the bootstrap's own, and then the index's
   pub finish-boot : 32 ≤ k.came
       → finish_of k row
-      ≡ judge Refused (short k.span ∷ size_checks k.span (sizes_of k.boot)) (judge Refused (came_checks k (sizes_of k.boot) (row_run row)) (Opens (sizes_of k.boot)))
+      ≡ judge Err (short k.span ∷ size_checks k.span (sizes_of k.boot)) (judge Err (came_checks k (sizes_of k.boot) (row_run row)) (Ok (sizes_of k.boot)))
   unfolding finish_of
   finish-boot h =
       let z : Sizes = sizes_of k.boot in
       let cs : List (Check Refusal) = short k.span ∷ size_checks k.span z in
-      rw (le-ltb (length row) 8192 enough, le-ltb k.came 32 h) (judge-append Refused cs (came_checks k z (row_run row)) (Opens z))
+      rw (le-ltb (length row) 8192 enough, le-ltb k.came 32 h) (judge-append Err cs (came_checks k z (row_run row)) (Ok z))
 
 -- ---- a file whose bytes come
 
@@ -633,29 +632,29 @@ module _ (f b : List ℕ) (long : 512 ≤ length f) (begun : 32 ≤ length b) (c
     abbrev new : List ℕ
     new = took_row given b row
 
-    finish-file : finish_of link new ≡ judge Refused (boot_checks f) (judge Refused (came_checks link (sizes_of f) (row_run new)) (Opens (sizes_of f)))
+    finish-file : finish_of link new ≡ judge Err (boot_checks f) (judge Err (came_checks link (sizes_of f) (row_run new)) (Ok (sizes_of f)))
     unfolding took_link
     finish-file =
         finish-boot link new (omega (arith, took-row-length given b row enough)) took-begun
-        ∙ ap (λ (y : Sizes). judge Refused (short (length f) ∷ size_checks (length f) y) (judge Refused (came_checks link y (row_run new)) (Opens y))) took-sizes
+        ∙ ap (λ (y : Sizes). judge Err (short (length f) ∷ size_checks (length f) y) (judge Err (came_checks link y (row_run new)) (Ok y))) took-sizes
 
-    pub finish-refused : {r : Refusal} → boot_of f ≡ Refused r → finish_of link new ≡ Refused r
-    finish-refused {r} e = finish-file ∙ judge-fires Refused (boot_checks f) _ r (boot-fires f e)
+    pub finish-refused : {r : Refusal} → boot_of f ≡ Err r → finish_of link new ≡ Err r
+    finish-refused {r} e = finish-file ∙ judge-fires Err (boot_checks f) _ r (boot-fires f e)
 
     module _ {z : Sizes} (B : Booted f z) where
-      finish-index : finish_of link new ≡ judge Refused (came_checks link z (row_run new)) (Opens z)
+      finish-index : finish_of link new ≡ judge Err (came_checks link z (row_run new)) (Ok z)
       finish-index =
-          finish-file ∙ judge-clear Refused (boot_checks f) _ (booted-clear B)
-          ∙ ap (λ (y : Sizes). judge Refused (came_checks link y (row_run new)) (Opens y)) B.reads
+          finish-file ∙ judge-clear Err (boot_checks f) _ (booted-clear B)
+          ∙ ap (λ (y : Sizes). judge Err (came_checks link y (row_run new)) (Ok y)) B.reads
 
-      pub finish-part : length b < z.n * z.l → finish_of link new ≡ Refused NotAllCame
+      pub finish-part : length b < z.n * z.l → finish_of link new ≡ Err NotAllCame
       finish-part h = finish-index ∙ rw (lt-ltb link.came (z.n * z.l) (omega (arith, took-came B)))
 
       pub finish-whole : ((i : ℕ) → get_or f i 0 < 256) → z.n * z.l ≤ length b → finish_of link new ≡ open_of f
       unfolding index_of
       finish-whole low h =
           let R = B.ranged.shape in
-          let i : judge Refused (came_checks link z (row_run new)) (Opens z) ≡ index_of z (row_run new) =
+          let i : judge Err (came_checks link z (row_run new)) (Ok z) ≡ index_of z (row_run new) =
           rw (le-ltb link.came (z.n * z.l) (omega (arith, took-came B))) in
           finish-index ∙ i
           ∙ index-runs z (row_run new) (run_of f z) B.ranged.used

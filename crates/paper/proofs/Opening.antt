@@ -1,4 +1,5 @@
 -- A file opens exactly where it is sound: what each test of the sizes and of the index says in plain facts, both ways, and what follows for the judgements.
+use Rattle.std.specs.Prelude.{Ok, Err}
 use Prim.Native.Nat.{ℕ, ◌+◌, ◌-◌, ◌*◌, ◌≤◌, ◌<◌, max}
 use mathlib.Core.Path.{◌≡◌, refl, sym, ◌∙◌, ap, subst}
 use mathlib.Core.Bool.{true, false, not}
@@ -13,13 +14,12 @@ use Rattle.lent.specs.Lists.{those}
 use Rattle.lent.specs.Checks.{Check, clear, fires, fired, answer, judge}
 use Rattle.lent.proofs.Lists.{All, all_true, true-all, true≢false, not_so, either, lt-or-ge, those-mem, mem-those, those-more}
 use Rattle.lent.proofs.Leasts.{least-none, none-least, none-test, test-none}
-use Rattle.lent.proofs.Checks.{Clear, clear-cons, cons-clear, clear-all, all-clear, clear-append, fires-append, append-clear, judge-clear, judge-fires, judge-passed, judge-refused, judge-append}
+use Rattle.lent.proofs.Checks.{Clear, clear-cons, cons-clear, clear-all, all-clear, clear-append, fires-append, append-clear, judge-clear, judge-fires, judged-ok, judged-err, judge-append}
 use Rattle.paper.specs.declared.sizes.Sizes.{Sizes}
 use Rattle.paper.specs.declared.sizes.Run.{Run}
 use Rattle.paper.specs.declared.refusal.Refusal.{Refusal}
 use Rattle.paper.specs.declared.refusal.Refusal.TheVariants.{TooShort, OldForm}
-use Rattle.paper.specs.declared.answer.Opened.{Opened}
-use Rattle.paper.specs.declared.answer.Opened.TheVariants.{Opens, Refused}
+use Rattle.paper.specs.Answers.{Opened}
 use Rattle.paper.specs.Sizes.{sizes_of, version_of, capacity_of, start_of, shape_tests, shaped, count_tests, in_range, too-short, old_form, word_checks, boot_checks, change_boot, Shaped, Ranged}
 use Rattle.paper.specs.Index.{run_of, empty, Full, data_tests, in_data, bad_tests, bad_at, above_tests, above_at, share_tests, shares, sharer, shared_at, index_checks, open_checks, change_checks, boot_of, index_of, open_of, change_boot_of, change_of, slots_of, Lies, Laid, Booted, Sound, Changeable}
 
@@ -188,28 +188,19 @@ module _ (run : ℕ → Run) (s : ℕ) where
 
 -- ---- the judgements: of the bootstrap
 
-never : (r : Refusal) (z : Sizes) → Refused r ≡ Opens z → ⊥
-never r z e = let x : ◌≡◌ {A = ℕ} 0 1 = cc in omega arith
-
-one : (p q : Refusal) → Refused p ≡ Refused q → p ≡ q
-one p q e = cc
-
-opens_one : (y z : Sizes) → Opens y ≡ Opens z → y ≡ z
-opens_one y z e = cc
-
 -- a judgement that opens has come through its checks, and one that refuses was refused by them
 module _ (cs : List (Check Refusal)) (y : Sizes) where
-  pub opens-clear : (z : Sizes) → judge Refused cs (Opens y) ≡ Opens z → (fired cs ≡ clear) × (y ≡ z)
-  opens-clear z e = let p = judge-passed Refused cs (Opens y) (Opens z) (λ r. never r z) e in (p.0, opens_one y z p.1)
+  pub opens-clear : (z : Sizes) → judge Err cs (Ok y) ≡ Ok z → (fired cs ≡ clear) × (y ≡ z)
+  opens-clear z e = judged-ok cs y e
 
-  pub refused-fires : (r : Refusal) → judge Refused cs (Opens y) ≡ Refused r → fired cs ≡ fires r
-  refused-fires r e = judge-refused Refused cs (Opens y) r one (λ q. never r y (sym q)) e
+  pub refused-fires : (r : Refusal) → judge Err cs (Ok y) ≡ Err r → fired cs ≡ fires r
+  refused-fires r e = judged-err cs y e
 
   -- and what checks after these come to
-  refused-then : {r : Refusal} (ds : List (Check Refusal)) → judge Refused cs (Opens y) ≡ Refused r → fired (cs ++ ds) ≡ fires r
+  refused-then : {r : Refusal} (ds : List (Check Refusal)) → judge Err cs (Ok y) ≡ Err r → fired (cs ++ ds) ≡ fires r
   refused-then {r} ds e = fires-append cs ds r (refused-fires r e)
 
-  opens-then : {z : Sizes} (ds : List (Check Refusal)) → judge Refused cs (Opens y) ≡ Opens z → fired (cs ++ ds) ≡ fired ds
+  opens-then : {z : Sizes} (ds : List (Check Refusal)) → judge Err cs (Ok y) ≡ Ok z → fired (cs ++ ds) ≡ fired ds
   opens-then {z} ds e = clear-append cs ds (opens-clear z e).0
 
 boot-facts : (f : List ℕ) → Clear (boot_checks f) → Booted f (sizes_of f)
@@ -229,7 +220,7 @@ facts-boot f b = (
 )
 
 module _ {f : List ℕ} {z : Sizes} where
-  pub boot-sound : boot_of f ≡ Opens z → Booted f z
+  pub boot-sound : boot_of f ≡ Ok z → Booted f z
   unfolding boot_of
   boot-sound e =
       let p = opens-clear (boot_checks f) (sizes_of f) z e in
@@ -238,11 +229,11 @@ module _ {f : List ℕ} {z : Sizes} where
   pub booted-clear : Booted f z → fired (boot_checks f) ≡ clear
   booted-clear b = all-clear (boot_checks f) (facts-boot f (subst (λ (y : Sizes). Booted f y) (sym b.reads) b))
 
-  pub sound-boot : Booted f z → boot_of f ≡ Opens z
+  pub sound-boot : Booted f z → boot_of f ≡ Ok z
   unfolding boot_of
-  sound-boot b = judge-clear Refused (boot_checks f) (Opens (sizes_of f)) (booted-clear b) ∙ ap Opens b.reads
+  sound-boot b = judge-clear Err (boot_checks f) (Ok (sizes_of f)) (booted-clear b) ∙ ap Ok b.reads
 
-pub boot-fires : (f : List ℕ) {r : Refusal} → boot_of f ≡ Refused r → fired (boot_checks f) ≡ fires r
+pub boot-fires : (f : List ℕ) {r : Refusal} → boot_of f ≡ Err r → fired (boot_checks f) ≡ fires r
 unfolding boot_of
 boot-fires f {r} e = refused-fires (boot_checks f) (sizes_of f) r e
 
@@ -276,16 +267,16 @@ module _ {z : Sizes} {run : ℕ → Run} where
           let x = shares-common (run t) (run s) z (h.inside t a b) (h.inside s c (omega arith)) k in
           h.apart s t x.at c d b x.past x.from-t x.to-t x.from-r x.to-r
 
-  pub index-laid : index_of z run ≡ Opens z → Laid z run
+  pub index-laid : index_of z run ≡ Ok z → Laid z run
   unfolding index_of
   index-laid e = clear-laid (clear-all (index_checks z run) (opens-clear (index_checks z run) z z e).0)
 
-  pub laid-index : Laid z run → index_of z run ≡ Opens z
+  pub laid-index : Laid z run → index_of z run ≡ Ok z
   unfolding index_of
-  laid-index h = judge-clear Refused (index_checks z run) (Opens z) (all-clear (index_checks z run) (laid-clear h))
+  laid-index h = judge-clear Err (index_checks z run) (Ok z) (all-clear (index_checks z run) (laid-clear h))
 
 -- an index opens with the sizes that it was judged with
-pub index_same : (y z : Sizes) (run : ℕ → Run) → index_of y run ≡ Opens z → y ≡ z
+pub index_same : (y z : Sizes) (run : ℕ → Run) → index_of y run ≡ Ok z → y ≡ z
 unfolding index_of
 index_same y z run e = (opens-clear (index_checks y run) y z e).1
 
@@ -294,66 +285,66 @@ index_same y z run e = (opens-clear (index_checks y run) y z e).1
 -- whatever is asked of the bootstrap
 module _ (f : List ℕ) (bs : List (Check Refusal)) where
   abbrev whole : Opened
-  whole = judge Refused (bs ++ index_checks (sizes_of f) (run_of f (sizes_of f))) (Opens (sizes_of f))
+  whole = judge Err (bs ++ index_checks (sizes_of f) (run_of f (sizes_of f))) (Ok (sizes_of f))
 
-  both : whole ≡ judge Refused bs (index_of (sizes_of f) (run_of f (sizes_of f)))
+  both : whole ≡ judge Err bs (index_of (sizes_of f) (run_of f (sizes_of f)))
   unfolding index_of
-  both = judge-append Refused bs (index_checks (sizes_of f) (run_of f (sizes_of f))) (Opens (sizes_of f))
+  both = judge-append Err bs (index_checks (sizes_of f) (run_of f (sizes_of f))) (Ok (sizes_of f))
 
-  both-refused : {r : Refusal} → judge Refused bs (Opens (sizes_of f)) ≡ Refused r → whole ≡ Refused r
-  both-refused {r} e = both ∙ judge-fires Refused bs _ r (refused-fires bs (sizes_of f) r e)
+  both-refused : {r : Refusal} → judge Err bs (Ok (sizes_of f)) ≡ Err r → whole ≡ Err r
+  both-refused {r} e = both ∙ judge-fires Err bs _ r (refused-fires bs (sizes_of f) r e)
 
-  both-index : {z : Sizes} → judge Refused bs (Opens (sizes_of f)) ≡ Opens z → whole ≡ index_of z (run_of f z)
+  both-index : {z : Sizes} → judge Err bs (Ok (sizes_of f)) ≡ Ok z → whole ≡ index_of z (run_of f z)
   both-index {z} e =
       let p = opens-clear bs (sizes_of f) z e in
-      both ∙ judge-clear Refused bs _ p.0 ∙ subst (λ (y : Sizes). index_of (sizes_of f) (run_of f (sizes_of f)) ≡ index_of y (run_of f y)) p.1 refl
+      both ∙ judge-clear Err bs _ p.0 ∙ subst (λ (y : Sizes). index_of (sizes_of f) (run_of f (sizes_of f)) ≡ index_of y (run_of f y)) p.1 refl
 
-pub open-refused : (f : List ℕ) {r : Refusal} → boot_of f ≡ Refused r → open_of f ≡ Refused r
+pub open-refused : (f : List ℕ) {r : Refusal} → boot_of f ≡ Err r → open_of f ≡ Err r
 unfolding boot_of open_of
 open-refused f e = both-refused f (boot_checks f) e
 
-pub open-index : (f : List ℕ) {z : Sizes} → boot_of f ≡ Opens z → open_of f ≡ index_of z (run_of f z)
+pub open-index : (f : List ℕ) {z : Sizes} → boot_of f ≡ Ok z → open_of f ≡ index_of z (run_of f z)
 unfolding boot_of open_of
 open-index f e = both-index f (boot_checks f) e
 
 -- what the checks of a file came to
 module _ (f : List ℕ) where
-  pub open-clear : {z : Sizes} → open_of f ≡ Opens z → fired (open_checks f) ≡ clear
+  pub open-clear : {z : Sizes} → open_of f ≡ Ok z → fired (open_checks f) ≡ clear
   unfolding open_of
   open-clear {z} e = (opens-clear (open_checks f) (sizes_of f) z e).0
 
-  pub open-reads : {z : Sizes} → open_of f ≡ Opens z → sizes_of f ≡ z
+  pub open-reads : {z : Sizes} → open_of f ≡ Ok z → sizes_of f ≡ z
   unfolding open_of
   open-reads {z} e = (opens-clear (open_checks f) (sizes_of f) z e).1
 
-  pub clear-open : fired (open_checks f) ≡ clear → open_of f ≡ Opens (sizes_of f)
+  pub clear-open : fired (open_checks f) ≡ clear → open_of f ≡ Ok (sizes_of f)
   unfolding open_of
-  clear-open e = judge-clear Refused (open_checks f) (Opens (sizes_of f)) e
+  clear-open e = judge-clear Err (open_checks f) (Ok (sizes_of f)) e
 
-  pub open-fires : {r : Refusal} → open_of f ≡ Refused r → fired (open_checks f) ≡ fires r
+  pub open-fires : {r : Refusal} → open_of f ≡ Err r → fired (open_checks f) ≡ fires r
   unfolding open_of
   open-fires {r} e = refused-fires (open_checks f) (sizes_of f) r e
 
   -- a call that has checks of its own after these
-  pub then-refused : {r : Refusal} (ds : List (Check Refusal)) → open_of f ≡ Refused r → fired (open_checks f ++ ds) ≡ fires r
+  pub then-refused : {r : Refusal} (ds : List (Check Refusal)) → open_of f ≡ Err r → fired (open_checks f ++ ds) ≡ fires r
   unfolding open_of
   then-refused ds e = refused-then (open_checks f) (sizes_of f) ds e
 
-  pub then-opens : {z : Sizes} (ds : List (Check Refusal)) → open_of f ≡ Opens z → fired (open_checks f ++ ds) ≡ fired ds
+  pub then-opens : {z : Sizes} (ds : List (Check Refusal)) → open_of f ≡ Ok z → fired (open_checks f ++ ds) ≡ fired ds
   unfolding open_of
   then-opens ds e = opens-then (open_checks f) (sizes_of f) ds e
 
-  pub then-clear : (ds : List (Check Refusal)) → fired (open_checks f ++ ds) ≡ clear → (open_of f ≡ Opens (sizes_of f)) × (fired ds ≡ clear)
+  pub then-clear : (ds : List (Check Refusal)) → fired (open_checks f ++ ds) ≡ clear → (open_of f ≡ Ok (sizes_of f)) × (fired ds ≡ clear)
   then-clear ds e = let p = append-clear (open_checks f) ds e in (clear-open p.0, p.1)
 
 module _ {f : List ℕ} {z : Sizes} where
-  pub open-sound : open_of f ≡ Opens z → Sound f z
+  pub open-sound : open_of f ≡ Ok z → Sound f z
   open-sound e =
       let c = append-clear (boot_checks f) (index_checks (sizes_of f) (run_of f (sizes_of f))) (open-clear f e) in
       subst (λ (y : Sizes). Sound f y) (open-reads f e)
       (record { booted = boot-facts f (clear-all (boot_checks f) c.0); laid = clear-laid (clear-all (index_checks (sizes_of f) (run_of f (sizes_of f))) c.1) })
 
-  pub sound-open : Sound f z → open_of f ≡ Opens z
+  pub sound-open : Sound f z → open_of f ≡ Ok z
   sound-open s = open-index f (sound-boot s.booted) ∙ laid-index s.laid
 
 -- ---- may be changed
@@ -376,40 +367,40 @@ module _ (f : List ℕ) where
   change-look ds h = change-other (rest_checks ++ ds) h
 
   -- so that it is judged as for a look, and its bootstrap too
-  pub old-boot : 512 ≤ length f → version_of f ≡ 0 → change_boot_of f ≡ Refused OldForm
+  pub old-boot : 512 ≤ length f → version_of f ≡ 0 → change_boot_of f ≡ Err OldForm
   unfolding change_boot_of
-  old-boot a v = judge-fires Refused (change_boot f) (Opens (sizes_of f)) OldForm (rw (le-ltb _ _ a, eq-eqb _ _ v))
+  old-boot a v = judge-fires Err (change_boot f) (Ok (sizes_of f)) OldForm (rw (le-ltb _ _ a, eq-eqb _ _ v))
 
   pub other_boot : (512 ≤ length f → version_of f ≡ 0 → ⊥) → change_boot_of f ≡ boot_of f
   unfolding change_boot_of boot_of
-  other_boot h = ap (answer Refused (Opens (sizes_of f))) (change-other (word_checks f) h)
+  other_boot h = ap (answer Err (Ok (sizes_of f))) (change-other (word_checks f) h)
 
-  pub old-file : 512 ≤ length f → version_of f ≡ 0 → change_of f ≡ Refused OldForm
+  pub old-file : 512 ≤ length f → version_of f ≡ 0 → change_of f ≡ Err OldForm
   unfolding change_of
-  old-file a v = judge-fires Refused (change_checks f) (Opens (sizes_of f)) OldForm (rw (le-ltb _ _ a, eq-eqb _ _ v))
+  old-file a v = judge-fires Err (change_checks f) (Ok (sizes_of f)) OldForm (rw (le-ltb _ _ a, eq-eqb _ _ v))
 
   pub other-file : (512 ≤ length f → version_of f ≡ 0 → ⊥) → change_of f ≡ open_of f
   unfolding change_of open_of
-  other-file h = ap (answer Refused (Opens (sizes_of f))) (change-other rest_checks h)
+  other-file h = ap (answer Err (Ok (sizes_of f))) (change-other rest_checks h)
 
   -- what the judgement came to
-  pub change-reads : {z : Sizes} → change_of f ≡ Opens z → sizes_of f ≡ z
+  pub change-reads : {z : Sizes} → change_of f ≡ Ok z → sizes_of f ≡ z
   unfolding change_of
   change-reads {z} e = (opens-clear (change_checks f) (sizes_of f) z e).1
 
-  pub change-then-refused : {r : Refusal} (ds : List (Check Refusal)) → change_of f ≡ Refused r → fired (change_checks f ++ ds) ≡ fires r
+  pub change-then-refused : {r : Refusal} (ds : List (Check Refusal)) → change_of f ≡ Err r → fired (change_checks f ++ ds) ≡ fires r
   unfolding change_of
   change-then-refused ds e = refused-then (change_checks f) (sizes_of f) ds e
 
-  pub change-then-opens : {z : Sizes} (ds : List (Check Refusal)) → change_of f ≡ Opens z → fired (change_checks f ++ ds) ≡ fired ds
+  pub change-then-opens : {z : Sizes} (ds : List (Check Refusal)) → change_of f ≡ Ok z → fired (change_checks f ++ ds) ≡ fired ds
   unfolding change_of
   change-then-opens ds e = opens-then (change_checks f) (sizes_of f) ds e
 
-  pub change-refused : {r : Refusal} → change_boot_of f ≡ Refused r → change_of f ≡ Refused r
+  pub change-refused : {r : Refusal} → change_boot_of f ≡ Err r → change_of f ≡ Err r
   unfolding change_boot_of change_of
   change-refused e = both-refused f (change_boot f) e
 
-  pub change-index : {z : Sizes} → change_boot_of f ≡ Opens z → change_of f ≡ index_of z (run_of f z)
+  pub change-index : {z : Sizes} → change_boot_of f ≡ Ok z → change_of f ≡ index_of z (run_of f z)
   unfolding change_boot_of change_of
   change-index e = both-index f (change_boot f) e
 
@@ -420,7 +411,7 @@ module _ (f : List ℕ) where
       let q = clear-cons (eqb (version_of f) 0) OldForm cs p.1 in
       (cons-clear (ltb (length f) 512) TooShort cs p.0 q.1, eqb-false _ _ q.0)
 
-  pub boot-changes : {z : Sizes} → change_boot_of f ≡ Opens z → Booted f z
+  pub boot-changes : {z : Sizes} → change_boot_of f ≡ Ok z → Booted f z
   unfolding change_boot_of
   boot-changes {z} e =
       let p = opens-clear (change_boot f) (sizes_of f) z e in
@@ -436,7 +427,7 @@ module _ (f : List ℕ) where
   pub booted-change : {z : Sizes} → Booted f z → version_of f ≡ 1 → fired (change_boot f) ≡ clear
   booted-change b v = change-other (word_checks f) (λ a e. omega arith) ∙ booted-clear b
 
-  pub change-sound : {z : Sizes} → change_of f ≡ Opens z → Sound f z
+  pub change-sound : {z : Sizes} → change_of f ≡ Ok z → Sound f z
   unfolding change_of
   change-sound {z} e =
       let p = opens-clear (change_checks f) (sizes_of f) z e in

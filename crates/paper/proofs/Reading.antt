@@ -1,4 +1,5 @@
 -- A scan that a slot shows, padded, is read back.
+use Rattle.std.specs.Prelude.{Ok, Err}
 use Prim.Native.Nat.{ℕ, ◌+◌, ◌-◌, ◌*◌, ◌≤◌}
 use mathlib.Core.Path.{◌≡◌, refl, sym, ◌∙◌, ap, subst}
 use mathlib.Core.Bool.{true, false}
@@ -12,8 +13,6 @@ use Rattle.lent.specs.Write.{pad, zeros}
 use Rattle.lent.proofs.Checks.{clear-append, all-clear, judge-clear}
 use Rattle.lent.proofs.Parts.{length-part-min}
 use Rattle.paper.specs.declared.sizes.Sizes.{Sizes}
-use Rattle.paper.specs.declared.answer.Ruled.TheVariants.{Keeps}
-use Rattle.paper.specs.declared.answer.Span.TheVariants.{Part, Refused}
 use Rattle.paper.specs.Sizes.{sizes_of, version_of, start_of}
 use Rattle.paper.specs.Index.{run_of, Full, shown_of, Sound}
 use Rattle.paper.specs.Entry.{version_one}
@@ -39,20 +38,20 @@ module _ {f : List ℕ} {z : Sizes} (S : Sound f z) (slot : ℕ) (i : InIndex z 
       clear-append (slot_checks f slot) (other_scan f slot ∷ []) (slot-clear full) ∙ simp e
 
   module _ (full : Full (run_of f z slot)) (v : z.version ≡ 1) (n : ℕ) (scan : List ℕ) (shows : shown_of f z slot ≡ pad n scan)
-      {head rest : ℕ} (keeps : ruled_of scan true ≡ Keeps head rest) where
+      {head rest : ℕ} (keeps : ruled_of scan true ≡ Ok (head, rest)) where
     abbrev from : ℕ
     from = start_of z (run_of f z slot).first
 
-    rules : ruled_of (shown_of f z slot) false ≡ Keeps head rest
+    rules : ruled_of (shown_of f z slot) false ≡ Ok (head, rest)
     unfolding pad
     rules = ap (λ (s : List ℕ). ruled_of s false) shows ∙ rules-longer scan (zeros (n - length scan)) true keeps
 
-    pub read_is : read_of f slot ≡ Part (start_of z (run_of f z slot).first) (start_of z (run_of f z slot).first + length scan)
+    pub read_is : read_of f slot ≡ Ok (start_of z (run_of f z slot).first, start_of z (run_of f z slot).first + length scan)
     unfolding read_of
     read_is =
-        judge-clear Refused (read_checks f slot) _ (read-clear full v)
-        ∙ subst (λ (y : Sizes). read_in (start_of y (run_of f y slot).first) (ruled_of (shown_of f y slot) false) ≡ Part from (from + length scan)) (sym S.booted.reads)
-        (ap (read_in from) rules ∙ ap (λ (k : ℕ). Part from (from + k)) ((keeps-lengths keeps).fills refl))
+        judge-clear Err (read_checks f slot) _ (read-clear full v)
+        ∙ subst (λ (y : Sizes). read_in (start_of y (run_of f y slot).first) (ruled_of (shown_of f y slot) false) ≡ Ok (from, from + length scan)) (sym S.booted.reads)
+        (ap (read_in from) rules ∙ ap (λ (k : ℕ). Ok (from, from + k)) ((keeps-lengths keeps).fills refl))
 
     front : part from (from + length scan) f ≡ scan
     unfolding pad

@@ -1,4 +1,5 @@
 -- The reason in refusal 11: the least number of a rule that is broken, and 0 where none is.
+use Rattle.std.specs.Prelude.{Ok, Err}
 use Prim.Native.Nat.{ℕ, zero, suc, ◌-◌, ◌≤◌}
 use mathlib.Core.Path.{◌≡◌, refl, sym, ◌∙◌, ap}
 use mathlib.Core.Bool.{Bool, true, false, not}
@@ -9,10 +10,10 @@ use borrow.Author.Tests.{not-false}
 use Rattle.lent.specs.Checks.{check, judge}
 use Rattle.lent.specs.Least.{least}
 use Rattle.lent.proofs.Leasts.{none-least}
-use Rattle.paper.specs.declared.answer.Ruled.TheVariants.{Keeps, Breaks}
 use Rattle.paper.specs.Scan.{classes_of, starts_of, headlen, datalen, rule1, rule2, rule3, rule4, rule5, rule6, ruled_of, last_of, Rule, Kept}
 use Rattle.paper.specs.Store.{reason_of}
-use Rattle.paper.proofs.Rules.{rule1-facts, facts-rule1, rule2-facts, facts-rule2, rule3-facts, facts-rule3, rule4-facts, facts-rule4, rule5-facts, facts-rule5, rule6-facts, facts-rule6, never, keeps-all}
+use Rattle.lent.proofs.Checks.{err≢ok}
+use Rattle.paper.proofs.Rules.{rule1-facts, facts-rule1, rule2-facts, facts-rule2, rule3-facts, facts-rule3, rule4-facts, facts-rule4, rule5-facts, facts-rule5, rule6-facts, facts-rule6, keeps-all}
 
 -- rule n of 1 to 6 as a test; no other number is broken
 unfoldable pub rule_of : List ℕ → Bool → ℕ → Bool
@@ -22,7 +23,7 @@ rule_of s saving n =
     (n - 1) true
 
 first : (a b c d e f : Bool) (head rest : ℕ)
-    → reason_of (judge Breaks (check (not a) 1 ∷ check (not b) 2 ∷ check (not c) 3 ∷ check (not d) 4 ∷ check (not e) 5 ∷ check (not f) 6 ∷ []) (Keeps head rest))
+    → reason_of (judge Err (check (not a) 1 ∷ check (not b) 2 ∷ check (not c) 3 ∷ check (not d) 4 ∷ check (not e) 5 ∷ check (not f) 6 ∷ []) (Ok (head, rest)))
     ≡ least (λ n. not (get_or (a ∷ b ∷ c ∷ d ∷ e ∷ f ∷ []) (n - 1) true)) 6
 unfolding least
 first false b c d e f head rest = refl
@@ -63,7 +64,7 @@ module _ (s : List ℕ) (saving : Bool) where
       first (rule1 (length s) saving) (rule2 (classes_of s)) (rule3 (starts_of s) (classes_of s)) (rule4 s (last_of s)) (rule5 s) (rule6 s saving) (headlen s)
       (datalen s)
 
-  pub no-reason : reason_of (ruled_of s saving) ≡ 0 → ruled_of s saving ≡ Keeps (headlen s) (datalen s)
+  pub no-reason : reason_of (ruled_of s saving) ≡ 0 → ruled_of s saving ≡ Ok (headlen s, datalen s)
   unfolding rule_of
   no-reason h =
       let n = (none-least {p = λ n. not (rule_of s saving n)} {n = 6} (sym reason-least ∙ h)).none in
@@ -72,8 +73,8 @@ module _ (s : List ℕ) (saving : Bool) where
       (not-false _ (n 6 (omega arith) (omega arith)))
 
   -- a reason is no 0
-  pub some-reason : {n : ℕ} → ruled_of s saving ≡ Breaks n → 1 ≤ n
-  some-reason {n = zero} e = absurd (never zero (sym e ∙ no-reason (ap reason_of e)))
+  pub some-reason : {n : ℕ} → ruled_of s saving ≡ Err n → 1 ≤ n
+  some-reason {n = zero} e = absurd (err≢ok (sym e ∙ no-reason (ap reason_of e)))
   some-reason {n = suc n} e = omega arith
 
 -- every rule, by its number

@@ -1,4 +1,5 @@
 -- The laws of a scan's rules: what keeping them says in plain facts, both ways; which one is broken; and that they outlast a longer run.
+use Rattle.std.specs.Prelude.{Ok, Err, Some}
 use Prim.Native.Nat.{ℕ, zero, suc, ◌+◌, ◌-◌, ◌*◌, ◌≤◌, ◌<◌}
 use mathlib.Core.Path.{◌≡◌, refl, sym, ◌∙◌, ap}
 use mathlib.Core.Bool.{Bool, true, false}
@@ -12,12 +13,10 @@ use borrow.Author.Tests.{lt-ltb, ltb-true, leb-true, le-leb, eqb-true, eq-eqb, n
 use Rattle.lent.specs.Number.{big, be16, be64, int16}
 use Rattle.lent.specs.Part.{Alike}
 use Rattle.lent.proofs.Lists.{true≢false, asked, answered, all_true, true-all, every-all, all-every, table_same}
-use Rattle.lent.proofs.Checks.{clear-all, judge-passed}
+use Rattle.lent.proofs.Checks.{clear-all, judged-ok}
 use Rattle.lent.proofs.Numbers.{number_same}
-use Rattle.whole.specs.declared.Whole.TheVariants.{Is}
 use Rattle.whole.specs.Length.{length_of, size_of}
 use Rattle.whole.proofs.Laws.{is-whole, whole_is}
-use Rattle.paper.specs.declared.answer.Ruled.TheVariants.{Keeps, Breaks}
 use Rattle.paper.specs.Entry.{natural_of}
 use Rattle.paper.specs.Scan.{classes_of, starts_of, word_of, headlen, datalen, rule1_tests, rule1, rule2_tests, rule2, rising, rule3_tests, rule3, rule4_tests, rule4, rule5_tests, rule5, rule6, rule_checks, ruled_of, last_of, Rule1, Rule2, Rule3, Rule4, Rule5, Rule6, Kept, Lengths}
 
@@ -110,51 +109,47 @@ module _ (s : List ℕ) where
 
 -- ---- the rules in order
 
-pub never : {head rest : ℕ} (n : ℕ) → Breaks n ≡ Keeps head rest → ⊥
-never n e = let z : ◌≡◌ {A = ℕ} 0 1 = cc in omega arith
-
 module _ (s : List ℕ) (saving : Bool) where
   -- "the number of the first one broken is the reason"
-  pub breaks-1 : rule1 (length s) saving ≡ false → ruled_of s saving ≡ Breaks 1
+  pub breaks-1 : rule1 (length s) saving ≡ false → ruled_of s saving ≡ Err 1
   unfolding ruled_of
   breaks-1 e = rw e
 
   module _ (one : rule1 (length s) saving ≡ true) where
-    pub breaks-2 : rule2 (classes_of s) ≡ false → ruled_of s saving ≡ Breaks 2
+    pub breaks-2 : rule2 (classes_of s) ≡ false → ruled_of s saving ≡ Err 2
     unfolding ruled_of
     breaks-2 e = rw (one, e)
 
     module _ (two : rule2 (classes_of s) ≡ true) where
-      pub breaks-3 : rule3 (starts_of s) (classes_of s) ≡ false → ruled_of s saving ≡ Breaks 3
+      pub breaks-3 : rule3 (starts_of s) (classes_of s) ≡ false → ruled_of s saving ≡ Err 3
       unfolding ruled_of
       breaks-3 e = rw (one, two, e)
 
       module _ (three : rule3 (starts_of s) (classes_of s) ≡ true) where
-        pub breaks-4 : rule4 s (last_of s) ≡ false → ruled_of s saving ≡ Breaks 4
+        pub breaks-4 : rule4 s (last_of s) ≡ false → ruled_of s saving ≡ Err 4
         unfolding ruled_of
         breaks-4 e = rw (one, two, three, e)
 
         module _ (four : rule4 s (last_of s) ≡ true) where
-          pub breaks-5 : rule5 s ≡ false → ruled_of s saving ≡ Breaks 5
+          pub breaks-5 : rule5 s ≡ false → ruled_of s saving ≡ Err 5
           unfolding ruled_of
           breaks-5 e = rw (one, two, three, four, e)
 
           module _ (five : rule5 s ≡ true) where
-            pub breaks-6 : rule6 s saving ≡ false → ruled_of s saving ≡ Breaks 6
+            pub breaks-6 : rule6 s saving ≡ false → ruled_of s saving ≡ Err 6
             unfolding ruled_of
             breaks-6 e = rw (one, two, three, four, five, e)
 
-            pub keeps-all : rule6 s saving ≡ true → ruled_of s saving ≡ Keeps (headlen s) (datalen s)
+            pub keeps-all : rule6 s saving ≡ true → ruled_of s saving ≡ Ok (headlen s, datalen s)
             unfolding ruled_of
             keeps-all e = rw (one, two, three, four, five, e)
 
 -- all of them, both ways
-pub kept : {s : List ℕ} {saving : Bool} {head rest : ℕ} → ruled_of s saving ≡ Keeps head rest → Kept s saving head rest
+pub kept : {s : List ℕ} {saving : Bool} {head rest : ℕ} → ruled_of s saving ≡ Ok (head, rest) → Kept s saving head rest
 unfolding ruled_of
 kept {s} {saving} {head} {rest} e =
-    let p = judge-passed Breaks (rule_checks s saving) (Keeps (headlen s) (datalen s)) (Keeps head rest) never e in
+    let p = judged-ok (rule_checks s saving) (headlen s, datalen s) e in
     let c = clear-all (rule_checks s saving) p.0 in
-    let q : Keeps (headlen s) (datalen s) ≡ Keeps head rest = p.1 in
     record {
       one = rule1-facts (length s) saving (not-false _ c.0);
       two = rule2-facts (classes_of s) (not-false _ c.1.0);
@@ -162,18 +157,18 @@ kept {s} {saving} {head} {rest} e =
       four = rule4-facts s (last_of s) (not-false _ c.1.1.1.0);
       five = rule5-facts s (not-false _ c.1.1.1.1.0);
       six = rule6-facts s saving (not-false _ c.1.1.1.1.1.0);
-      head_is = cc;
-      rest_is = cc;
+      head_is = ap (λ (q : ℕ × ℕ). q.0) p.1;
+      rest_is = ap (λ (q : ℕ × ℕ). q.1) p.1;
     }
 
-pub keeps : {s : List ℕ} {saving : Bool} {head rest : ℕ} → Kept s saving head rest → ruled_of s saving ≡ Keeps head rest
+pub keeps : {s : List ℕ} {saving : Bool} {head rest : ℕ} → Kept s saving head rest → ruled_of s saving ≡ Ok (head, rest)
 keeps {s} {saving} k =
     keeps-all s saving (facts-rule1 (length s) saving k.one) (facts-rule2 (classes_of s) k.two) (facts-rule3 (starts_of s) (classes_of s) k.three)
     (facts-rule4 s (last_of s) k.four) (facts-rule5 s k.five) (facts-rule6 s saving k.six)
-    ∙ cc (k.head_is, k.rest_is)
+    ∙ rw (k.head_is, k.rest_is)
 
 -- and of the lengths alone
-pub keeps-lengths : {s : List ℕ} {saving : Bool} {head rest : ℕ} → ruled_of s saving ≡ Keeps head rest → Lengths s saving head rest
+pub keeps-lengths : {s : List ℕ} {saving : Bool} {head rest : ℕ} → ruled_of s saving ≡ Ok (head, rest) → Lengths s saving head rest
 keeps-lengths {s} {saving} {head} {rest} e =
     let k = kept e in
     record {
@@ -218,18 +213,18 @@ module _ (s t : List ℕ) (same : Alike s t 0 48) where
         one = (long, λ q. absurd (true≢false q refl));
         two = rw classes-same k.two;
         three = rw (classes-same, starts-same) k.three;
-        four = (h ∙ a.0 ∙ ap Is (sym hs), rw hs a.1, omega arith, omega arith, omega arith);
-        five = (r ∙ b.0 ∙ ap Is (sym rs), rw rs b.1, omega arith, omega arith);
+        four = (h ∙ a.0 ∙ ap Some (sym hs), rw hs a.1, omega arith, omega arith, omega arith);
+        five = (r ∙ b.0 ∙ ap Some (sym rs), rw rs b.1, omega arith, omega arith);
         six = λ q. absurd (true≢false q refl);
         head_is = hs ∙ k.head_is;
         rest_is = rs ∙ k.rest_is;
       }
 
-  pub rules-same : (saving : Bool) {head rest : ℕ} → 256 ≤ length t → head + rest ≤ length t → ruled_of s saving ≡ Keeps head rest → ruled_of t false ≡ Keeps head rest
+  pub rules-same : (saving : Bool) {head rest : ℕ} → 256 ≤ length t → head + rest ≤ length t → ruled_of s saving ≡ Ok (head, rest) → ruled_of t false ≡ Ok (head, rest)
   rules-same saving long within e = keeps (kept_same long within (kept e))
 
 -- rules that hold over a run hold over any longer run with that prefix, when reading
-pub rules-longer : (s more : List ℕ) (saving : Bool) {head rest : ℕ} → ruled_of s saving ≡ Keeps head rest → ruled_of (s ++ more) false ≡ Keeps head rest
+pub rules-longer : (s more : List ℕ) (saving : Bool) {head rest : ℕ} → ruled_of s saving ≡ Ok (head, rest) → ruled_of (s ++ more) false ≡ Ok (head, rest)
 rules-longer s more saving {head} {rest} e =
     let k = keeps-lengths e in
     let l = length-append s more in

@@ -1,4 +1,5 @@
 -- A job just begun on a file that opens, step by step: each step performs the next of its writes, and after the last the change is confirmed.
+use Rattle.std.specs.Prelude.{Ok}
 use Prim.Native.Nat.{ℕ, suc, ◌+◌, ◌≤◌, ◌<◌, min}
 use mathlib.Core.Path.{◌≡◌, refl, sym, ◌∙◌, ap}
 use mathlib.Core.Bool.{true, cond}
@@ -105,15 +106,15 @@ module _ {z : Sizes} {f scan : List ℕ} {j : Job} (Y : Ready z f scan j) (A : A
 
   -- while a write is left: its record, and the count
   pub stage-wrote : (i : ℕ) → i < total_of z j
-      → step_answer (file_at f scan j i) scan (job_at z f scan j i) ≡ Wrote (get_or (writes_of (file_at f scan j i) (sizes_at i) j scan) i no_write).record_no (i + 1)
+      → step_answer (file_at f scan j i) scan (job_at z f scan j i) ≡ Ok (Wrote (get_or (writes_of (file_at f scan j i) (sizes_at i) j scan) i no_write).record_no (i + 1))
   stage-wrote i h =
       answer-wrote (F i) scan (J i) (sizes_at i) (at-agrees i) (along Y i).sound.booted.reads (omega arith)
-      ∙ ap (λ (w : Write). Wrote w.record_no (min i T + 1)) (next-write i)
-      ∙ ap (Wrote (get_or (writes_of (F i) (sizes_at i) j scan) i no_write).record_no) (omega arith)
+      ∙ ap (λ (w : Write). Ok (Wrote w.record_no (min i T + 1))) (next-write i)
+      ∙ ap (λ (n : ℕ). Ok (Wrote (get_or (writes_of (F i) (sizes_at i) j scan) i no_write).record_no n)) (omega arith)
 
   -- with none left: the file is judged, and the change confirmed
   pub stage-confirms : (i : ℕ) → total_of z j ≤ i
-      → step_answer (file_at f scan j i) scan (job_at z f scan j i) ≡ cond j.saves (Saved 0 (total_of z j)) (Cleared 0 (total_of z j))
+      → step_answer (file_at f scan j i) scan (job_at z f scan j i) ≡ cond j.saves (Ok (Saved 0 (total_of z j))) (Ok (Cleared 0 (total_of z j)))
   stage-confirms i h =
       let a = along Y i in
       let y : Sizes = sizes_at i in

@@ -1,4 +1,5 @@
 -- 01, "Numbers to hold us to": the lines marked P, as one fact over the definitions.
+use Rattle.std.specs.Prelude.{Err}
 use Prim.Native.Nat.{ℕ, ◌≤◌, ◌<◌}
 use mathlib.Core.Path.{◌≡◌, refl, ap}
 use mathlib.Core.Bool.{false}
@@ -13,21 +14,19 @@ use Rattle.lent.proofs.Checks.{judge-fires}
 use Rattle.whole.proofs.Table.{doubles}
 use Rattle.paper.specs.declared.refusal.Refusal.{Refusal}
 use Rattle.paper.specs.declared.refusal.Refusal.TheVariants.{TooShort, OldForm, UnknownForm, OutOfRange}
-use Rattle.paper.specs.declared.answer.Opened.{Opened}
-use Rattle.paper.specs.declared.answer.Opened.TheVariants.{Refused}
-use Rattle.paper.specs.declared.job.Begun.{Begun}
+use Rattle.paper.specs.Answers.{Opened, Begun, taken_in}
 use Rattle.paper.specs.Refusals.{number_of, opened_says, taken_says}
 use Rattle.paper.specs.Sizes.{sizes_of, version_of, word_at, counter_of, type_of, shaped, in_range, Ranged}
 use Rattle.paper.specs.Index.{empty, in_data, bad_at, above_at, shared_at, change_checks, boot_of, open_of}
 use Rattle.paper.specs.Look.{no_slot}
-use Rattle.paper.specs.Store.{refused, scan_checks, save_of}
+use Rattle.paper.specs.Store.{scan_checks, save_of}
 use Rattle.paper.specs.Numbers.{answered, saving, least_old, Numbers}
 use Rattle.paper.proofs.Opening.{range-facts, open-refused, change-old}
 
 -- ---- the refusals among them
 
 module _ (f : List ℕ) where
-  refuses : (r : Refusal) → boot_of f ≡ Refused r → answered f ≡ number_of r
+  refuses : (r : Refusal) → boot_of f ≡ Err r → answered f ≡ number_of r
   refuses r e = ap (λ (o : Opened). (opened_says o).number) (open-refused f e)
 
   short : length f < 512 → answered f ≡ 1
@@ -38,8 +37,8 @@ module _ (f : List ℕ) where
     old : (slot : ℕ) (scan about : List ℕ) → version_of f ≡ 0 → saving f slot scan about ≡ 2
     unfolding save_of
     old slot scan about v =
-        ap (λ (b : Begun). (taken_says b.answer).number)
-        (judge-fires refused (change_checks f ++ (no_slot (sizes_of f) slot ∷ scan_checks f scan)) _ OldForm (change-old f (no_slot (sizes_of f) slot ∷ scan_checks f scan) a v))
+        ap (λ (b : Begun). (taken_says (taken_in b)).number)
+        (judge-fires Err (change_checks f ++ (no_slot (sizes_of f) slot ∷ scan_checks f scan)) _ OldForm (change-old f (no_slot (sizes_of f) slot ∷ scan_checks f scan) a v))
 
     unknown : version_of f ≡ 2 → answered f ≡ 3
     unfolding boot_of

@@ -1,4 +1,5 @@
 -- What a conversion rests on: the length of the file and its records 1 to N. So it may be lent a window in which nothing else was read.
+use Rattle.std.specs.Prelude.{Ok, Err}
 use Prim.Native.Nat.{ℕ, ◌+◌, ◌*◌, ◌≤◌}
 use mathlib.Core.Path.{◌≡◌, refl, sym, ◌∙◌, ap}
 use mathlib.Core.Bool.{not}
@@ -14,7 +15,6 @@ use Rattle.lent.proofs.Parts.{part_same, alike-within}
 use Rattle.paper.specs.declared.sizes.Sizes.{Sizes}
 use Rattle.paper.specs.declared.sizes.Run.{Run}
 use Rattle.paper.specs.declared.refusal.Refusal.{Refusal}
-use Rattle.paper.specs.declared.answer.Taken.TheVariants.{Accepted, Refused}
 use Rattle.paper.specs.Sizes.{sizes_of, capacity_of, home_of}
 use Rattle.paper.specs.Index.{run_of, Sound}
 use Rattle.paper.specs.Convert.{carried_at, entry_as, records_as, too-small, other_magic, narrow_tests, wide_run, form_checks, convert_checks, convert_of, converted_out}
@@ -78,7 +78,7 @@ module _ (f g : List ℕ) {z : Sizes} (S : Sound f z) (len : length g ≡ length
   unfolding convert_of converted_out
   window-converts v out =
       let put : List ℕ → Sizes → List ℕ = λ h y. write out 0 (records_as v y (carried_at h y)) in (
-        ap (answer Refused Accepted) (checks-same v out),
+        ap (answer Err (Ok tt)) (checks-same v out),
         ap (answer (λ (r : Refusal). out) (put g (sizes_of g))) (checks-same v out)
             ∙ ap (λ (x : List ℕ). answer (λ (r : Refusal). out) x (fired (convert_checks v f out)))
             (ap (put g) window-sound.booted.reads ∙ ap (write out 0) (records-same v) ∙ ap (put f) (sym S.booted.reads)),

@@ -1,6 +1,6 @@
 -- 02, 2026-03: "Convert the bootstrap and index into a second lent buffer, N records, the rest of that buffer untouched and the data section being the same". The
 -- wanted form is a version: 0 old, 1 current.
-use Rattle.std.specs.Prelude.{ℕ, zero, suc, ◌+◌, ◌*◌, ◌≤◌, ◌<◌, ◌≡◌, Bool, not, cond, List, [], ◌∷◌, ◌++◌, ltb, leb, eqb, length, take, drop, get_or}
+use Rattle.std.specs.Prelude.{ℕ, zero, suc, ◌+◌, ◌*◌, ◌≤◌, ◌<◌, ◌≡◌, Bool, not, cond, List, [], ◌∷◌, ◌++◌, ltb, leb, eqb, length, take, drop, get_or, Ok, Err}
 use Rattle.lent.specs.Lists.{also, all}
 use Rattle.lent.specs.Least.{least}
 use Rattle.lent.specs.Checks.{Check, check, judge}
@@ -11,8 +11,7 @@ use Rattle.paper.specs.declared.sizes.Sizes.{Sizes}
 use Rattle.paper.specs.declared.sizes.Run.{Run}
 use Rattle.paper.specs.declared.refusal.Refusal.{Refusal}
 use Rattle.paper.specs.declared.refusal.Refusal.TheVariants.{TooSmall, NotConvertible}
-use Rattle.paper.specs.declared.answer.Taken.{Taken}
-use Rattle.paper.specs.declared.answer.Taken.TheVariants.{Accepted, Refused}
+use Rattle.paper.specs.Answers.{Taken}
 use Rattle.paper.specs.Sizes.{sizes_of, by_form, boot_bytes, capacity_of, home_of}
 use Rattle.paper.specs.Index.{run_of, empty, Full, open_checks, Sound}
 use Rattle.paper.specs.Entry.{position_of, version_one}
@@ -98,7 +97,7 @@ convert_checks v f out = open_checks f ++ (too-small out (sizes_of f) ∷ form_c
 -- ---- the answer, and the second buffer afterwards
 
 unfoldable pub convert_of : ℕ → List ℕ → List ℕ → Taken
-convert_of v f out = judge Refused (convert_checks v f out) Accepted
+convert_of v f out = judge Err (convert_checks v f out) (Ok tt)
 
 -- "the rest of that buffer untouched"
 unfoldable pub converted_out : ℕ → List ℕ → List ℕ → List ℕ
@@ -118,7 +117,7 @@ pub record Sayable (v : ℕ) (f : List ℕ) (z : Sizes) : Type 0 where
   pub counted : v ≡ 0 → z.counter ≤ 65535
   pub narrow : v ≡ 0 → (s : ℕ) → 1 ≤ s → s ≤ z.u → ((run_of f z s).first ≤ 32767) × ((run_of f z s).last ≤ 32767)
 
--- what `convert_of v f out ≡ Accepted` says
+-- what `convert_of v f out ≡ Ok tt` says
 pub record Convertible (v : ℕ) (f out : List ℕ) (z : Sizes) : Type 0 where
   pub sound : Sound f z
   pub room : z.n * z.l ≤ length out

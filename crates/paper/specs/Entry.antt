@@ -57,7 +57,7 @@ fields_of v f at =
       kind = kind_of (natural_of (int16 (be16 f (at + 56)))) (of_bits binary32 (be32 f (at + 36))) (of_bits binary64 (be64 f (at + 40)));
     }
 
--- the entry that a refused call hands back: all zeros
+-- what stands for the entry where the call is refused: all zeros
 abbrev pub no_entry : Entry
 no_entry =
     record {

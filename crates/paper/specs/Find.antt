@@ -1,5 +1,5 @@
 -- 02, 2026-06: "Finding scans when the index is lost". What is found by the rules alone, and the call that reports it.
-use Rattle.std.specs.Prelude.{ℕ, zero, suc, ◌+◌, ◌-◌, ◌*◌, false, cond, List, [], ◌∷◌, ◌++◌, ltb, length}
+use Rattle.std.specs.Prelude.{ℕ, zero, suc, ◌+◌, ◌-◌, ◌*◌, false, cond, List, [], ◌∷◌, ◌++◌, ltb, length, Ok, Err}
 use Rattle.lent.specs.Number.{be64}
 use Rattle.lent.specs.Lists.{threes}
 use Rattle.lent.specs.Checks.{Check, check, judge}
@@ -8,10 +8,7 @@ use Rattle.lent.specs.Write.{write}
 use Rattle.paper.specs.declared.sizes.Sizes.{Sizes}
 use Rattle.paper.specs.declared.refusal.Refusal.{Refusal}
 use Rattle.paper.specs.declared.refusal.Refusal.TheVariants.{TooSmall}
-use Rattle.paper.specs.declared.answer.Listed.{Listed}
-use Rattle.paper.specs.declared.answer.Listed.TheVariants.{Scans, Refused}
-use Rattle.paper.specs.declared.answer.Ruled.{Ruled}
-use Rattle.paper.specs.declared.answer.Ruled.TheVariants.{Keeps, Breaks}
+use Rattle.paper.specs.Answers.{Listed, Ruled}
 use Rattle.paper.specs.Sizes.{sizes_of, start_of, bytes_of, boot_checks}
 use Rattle.paper.specs.Scan.{ruled_of}
 use Rattle.paper.specs.Store.{records_for}
@@ -22,8 +19,8 @@ rest_from f z r = part (start_of z r) (bytes_of z) f
 
 -- how many records a scan takes "by HEADLEN + DATALEN"; none where a rule is broken
 abbrev pub takes : Sizes → Ruled → ℕ
-takes z (Keeps head rest) = records_for z (head + rest)
-takes z (Breaks reason) = 0
+takes z (Ok (head, rest)) = records_for z (head + rest)
+takes z (Err reason) = 0
 
 -- "judge the run .. by rules 1 to 5": how many records the scan takes that begins at record r, 0 where they do not hold
 unfoldable pub takes_at : List ℕ → Sizes → ℕ → ℕ
@@ -67,7 +64,7 @@ find_checks f out = boot_checks f ++ (check (ltb (length out) (3 * length (find_
 
 -- the answer is how many are found
 unfoldable pub report_of : List ℕ → List ℕ → Listed
-report_of f out = judge Refused (find_checks f out) (Scans (length (find_of f (sizes_of f))))
+report_of f out = judge Err (find_checks f out) (Ok (length (find_of f (sizes_of f))))
 
 -- what was lent for them, afterwards: "No element past 3 x finds is touched"
 unfoldable pub report_out : List ℕ → List ℕ → List ℕ

@@ -1,5 +1,5 @@
 -- 02, 2026-05: "a yes or no whether every data record in no listed scan is all zeros".
-use Rattle.std.specs.Prelude.{ℕ, ◌+◌, ◌≤◌, ◌<◌, ◌≡◌, Bool, not, List, [], ◌∷◌, ltb, eqb}
+use Rattle.std.specs.Prelude.{ℕ, ◌+◌, ◌≤◌, ◌<◌, ◌≡◌, Bool, not, List, [], ◌∷◌, ltb, eqb, Ok, Err}
 use Rattle.lent.specs.Lists.{all}
 use Rattle.lent.specs.Least.{least}
 use Rattle.lent.specs.Checks.{judge}
@@ -7,8 +7,7 @@ use Rattle.lent.specs.Part.{part}
 use Rattle.lent.specs.Same.{same}
 use Rattle.lent.specs.Write.{zeros}
 use Rattle.paper.specs.declared.sizes.Sizes.{Sizes}
-use Rattle.paper.specs.declared.answer.Asked.{Asked}
-use Rattle.paper.specs.declared.answer.Asked.TheVariants.{Is, Refused}
+use Rattle.paper.specs.Answers.{Asked}
 use Rattle.paper.specs.Sizes.{sizes_of, start_of}
 use Rattle.paper.specs.Index.{run_of, sharer, open_checks}
 use Rattle.paper.specs.Store.{run_from}
@@ -30,7 +29,7 @@ gaps_zero f z = eqb (least (left_at f z) (z.n + z.d)) 0
 
 -- "Refusals: open's own for that question"
 unfoldable pub gaps_of : List ℕ → Asked
-gaps_of f = judge Refused (open_checks f) (Is (gaps_zero f (sizes_of f)))
+gaps_of f = judge Err (open_checks f) (Ok (gaps_zero f (sizes_of f)))
 
 -- ---- what the test says, in plain facts
 

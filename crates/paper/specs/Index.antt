@@ -1,5 +1,5 @@
 -- 01, "The index entry": which entries are empty, in range, above U, or share a record; and the judgement of a whole file, refusals 1 to 8.
-use Rattle.std.specs.Prelude.{ℕ, ◌+◌, ◌-◌, ◌*◌, ◌≤◌, ◌<◌, ◌≡◌, Bool, not, List, [], ◌∷◌, ◌++◌, ltb, leb, eqb, length, get_or}
+use Rattle.std.specs.Prelude.{ℕ, ◌+◌, ◌-◌, ◌*◌, ◌≤◌, ◌<◌, ◌≡◌, Bool, not, List, [], ◌∷◌, ◌++◌, ltb, leb, eqb, length, get_or, Ok, Err}
 use Rattle.lent.specs.Lists.{all, those}
 use Rattle.lent.specs.Least.{least}
 use Rattle.lent.specs.Checks.{Check, check, judge}
@@ -8,8 +8,7 @@ use Rattle.paper.specs.declared.sizes.Sizes.{Sizes}
 use Rattle.paper.specs.declared.sizes.Run.{Run}
 use Rattle.paper.specs.declared.refusal.Refusal.{Refusal}
 use Rattle.paper.specs.declared.refusal.Refusal.TheVariants.{BadEntry, AboveUse, SharedRecord}
-use Rattle.paper.specs.declared.answer.Opened.{Opened}
-use Rattle.paper.specs.declared.answer.Opened.TheVariants.{Opens, Refused}
+use Rattle.paper.specs.Answers.{Opened}
 use Rattle.paper.specs.Sizes.{sizes_of, version_of, word_at, capacity_of, home_of, start_of, bytes_of, size_checks, boot_checks, change_boot, Ranged}
 
 -- the first two numbers of slot s's entry: "first record, last record"
@@ -88,23 +87,23 @@ change_checks f = change_boot f ++ index_checks (sizes_of f) (run_of f (sizes_of
 
 -- the judgement of the bootstrap alone, of its sizes where there are 512 bytes, of an index alone, and of a file
 unfoldable pub boot_of : List ℕ → Opened
-boot_of f = judge Refused (boot_checks f) (Opens (sizes_of f))
+boot_of f = judge Err (boot_checks f) (Ok (sizes_of f))
 
 unfoldable pub sized_of : ℕ → Sizes → Opened
-sized_of len z = judge Refused (size_checks len z) (Opens z)
+sized_of len z = judge Err (size_checks len z) (Ok z)
 
 unfoldable pub index_of : Sizes → (ℕ → Run) → Opened
-index_of z run = judge Refused (index_checks z run) (Opens z)
+index_of z run = judge Err (index_checks z run) (Ok z)
 
 unfoldable pub open_of : List ℕ → Opened
-open_of f = judge Refused (open_checks f) (Opens (sizes_of f))
+open_of f = judge Err (open_checks f) (Ok (sizes_of f))
 
 -- and whether a file may be changed, by its bootstrap alone and as a whole
 unfoldable pub change_boot_of : List ℕ → Opened
-change_boot_of f = judge Refused (change_boot f) (Opens (sizes_of f))
+change_boot_of f = judge Err (change_boot f) (Ok (sizes_of f))
 
 unfoldable pub change_of : List ℕ → Opened
-change_of f = judge Refused (change_checks f) (Opens (sizes_of f))
+change_of f = judge Err (change_checks f) (Ok (sizes_of f))
 
 -- the slots with a scan, "in slot order"
 unfoldable pub slots_of : Sizes → (ℕ → Run) → List ℕ
@@ -126,13 +125,13 @@ pub record Lies (z : Sizes) (r : Run) : Type 0 where
   pub order : Full r → r.first ≤ r.last
   pub high : r.last ≤ z.n + z.d
 
--- what `index_of z run ≡ Opens z` says
+-- what `index_of z run ≡ Ok z` says
 pub record Laid (z : Sizes) (run : ℕ → Run) : Type 0 where
   pub inside : (s : ℕ) → 1 ≤ s → s ≤ z.u → Lies z (run s)
   pub above : (s : ℕ) → z.u < s → s ≤ capacity_of z → (run s).first + (run s).last ≡ 0
   pub apart : (s t r : ℕ) → 1 ≤ s → s < t → t ≤ z.u → z.n < r → (run s).first ≤ r → r ≤ (run s).last → (run t).first ≤ r → r ≤ (run t).last → ⊥
 
--- what `boot_of f ≡ Opens z` says
+-- what `boot_of f ≡ Ok z` says
 pub record Booted (f : List ℕ) (z : Sizes) : Type 0 where
   pub reads : sizes_of f ≡ z
   pub long : 512 ≤ length f
@@ -140,12 +139,12 @@ pub record Booted (f : List ℕ) (z : Sizes) : Type 0 where
   pub ranged : Ranged z
   pub held : bytes_of z ≤ length f
 
--- what `open_of f ≡ Opens z` says
+-- what `open_of f ≡ Ok z` says
 pub record Sound (f : List ℕ) (z : Sizes) : Type 0 where
   pub booted : Booted f z
   pub laid : Laid z (run_of f z)
 
--- what `change_of f ≡ Opens z` says
+-- what `change_of f ≡ Ok z` says
 pub record Changeable (f : List ℕ) (z : Sizes) : Type 0 where
   pub sound : Sound f z
   pub current : z.version ≡ 1

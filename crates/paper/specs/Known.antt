@@ -1,5 +1,5 @@
 -- Known answers: numbers and bytes of 01 and 02 written out, each against one definition; `at_most` alone names another, the list that is printed.
-use Rattle.std.specs.Prelude.{ℕ, ◌+◌, ◌-◌, ◌≡◌, Bool, true, false, List, [], ◌∷◌, ◌++◌, Float, pos, negsuc, length, take, drop, get_or, replicate}
+use Rattle.std.specs.Prelude.{ℕ, ◌+◌, ◌-◌, ◌≡◌, Bool, true, false, List, [], ◌∷◌, ◌++◌, Float, pos, negsuc, length, take, drop, get_or, replicate, Ok, Err}
 use Rattle.std.specs.Float.{binary32, binary64}
 use Rattle.std.specs.Float.Ieee.{of_bits}
 use Rattle.lent.specs.Number.{int16}
@@ -9,15 +9,7 @@ use Rattle.lent.specs.Checks.{clear, fires, fired}
 use Rattle.paper.specs.declared.sizes.Sizes.{Sizes}
 use Rattle.paper.specs.declared.sizes.Run.{Run}
 use Rattle.paper.specs.declared.refusal.Refusal.TheVariants.{TooShort, OldForm, UnknownForm, OutOfRange, PastEnd, BadEntry, AboveUse, SharedRecord, NoSuchSlot, EmptySlot, BadScan, NoEmptySlot, NoRoom, Disagrees, Differs, BadBlank, TooSmall, NotVersionOne, NotConvertible, NotAllCame}
-use Rattle.paper.specs.declared.answer.Opened.{Opened}
-use Rattle.paper.specs.declared.answer.Opened.TheVariants as opened
-use Rattle.paper.specs.declared.answer.Listed.TheVariants as listed
-use Rattle.paper.specs.declared.answer.Ruled.TheVariants.{Keeps, Breaks}
-use Rattle.paper.specs.declared.answer.Span.TheVariants as span
-use Rattle.paper.specs.declared.answer.Span.TheVariants.{Part}
-use Rattle.paper.specs.declared.answer.Taken.TheVariants as taken
-use Rattle.paper.specs.declared.answer.Asked.TheVariants as asked
-use Rattle.paper.specs.declared.answer.Asked.TheVariants.{Is}
+use Rattle.paper.specs.Answers.{Opened, taken_in}
 use Rattle.paper.specs.declared.entry.Kind.TheVariants.{Spectral, Continuum, Other}
 use Rattle.paper.specs.declared.entry.Entry.{Entry}
 use Rattle.paper.specs.declared.job.Job.{Job}
@@ -28,12 +20,12 @@ use Rattle.paper.specs.Sizes.{sizes_of, version_of, word_at, boot_bytes}
 use Rattle.paper.specs.Index.{index_of, open_of}
 use Rattle.paper.specs.Entry.{kind_of, magic_of, version_one, fields_of, no_entry, entry_bytes}
 use Rattle.paper.specs.Scan.{classes_of, starts_of, rule1, ruled_of, class_of, data_of, part_of, span_place}
-use Rattle.paper.specs.Look.{listed_of, listed_out, found_of, show_of, read_of}
-use Rattle.paper.specs.Store.{blank_sizes, free_place, empty_slot, highest, many_of, no_job, save_of, keep_of, clear_of, used_after, sizes_after, lowered, total_of, writes_of}
+use Rattle.paper.specs.Look.{listed_of, listed_out, found_of, show_of, read_of, fields_in}
+use Rattle.paper.specs.Store.{blank_sizes, free_place, empty_slot, highest, many_of, no_job, save_of, keep_of, clear_of, used_after, sizes_after, lowered, total_of, writes_of, job_in}
 use Rattle.paper.specs.Step.{agrees, no_write, stands, is_confirmed}
 use Rattle.paper.specs.Gaps.{gaps_of}
 use Rattle.paper.specs.Find.{report_of, report_out}
-use Rattle.paper.specs.Link.{head_of, index_end, headed, took_link, more_of, shifted, number_at, element_after, elements_of, row_after, took_row, begin_of, take_of, take_row, finish_of}
+use Rattle.paper.specs.Link.{head_of, index_end, headed, took_link, more_of, shifted, number_at, element_after, elements_of, row_after, took_row, begin_of, take_of, take_row, finish_of, fresh_link, link_in}
 use Rattle.paper.specs.Convert.{Carried, boot_as, scan_as, entry_as, wide_run, form_checks, convert_of, converted_out, joined}
 use Rattle.paper.specs.Lister.{decimal, printed, list_text}
 
@@ -71,26 +63,26 @@ some_sizes = record { n = 16909060; d = 84281096; l = 151653132; m = 219025168; 
 
 -- and what is accepted: 0, and the values
 pub record Answers : Type 0 where
-  pub opens : opened_says (opened.Opens some_sizes) ≡ says 0 (16909060 ∷ 84281096 ∷ 151653132 ∷ 219025168 ∷ 286397204 ∷ 353769240 ∷ 421141276 ∷ 488513312 ∷ [])
-  pub not_opened : opened_says (opened.Refused (BadEntry 3)) ≡ says 6 (3 ∷ [])
-  pub scans : listed_says (listed.Scans 2) ≡ says 0 (2 ∷ [])
-  pub not_listed : listed_says (listed.Refused TooSmall) ≡ says 17 (0 ∷ [])
-  pub part : span_says (Part 3 5) ≡ says 0 (3 ∷ 5 ∷ [])
-  pub no_part : span_says (span.Refused (BadScan 4)) ≡ says 11 (4 ∷ [])
-  pub accepted : taken_says taken.Accepted ≡ says 0 []
-  pub not_taken : taken_says (taken.Refused NoRoom) ≡ says 13 (0 ∷ [])
-  pub yes : asked_says (Is true) ≡ says 0 (1 ∷ [])
-  pub no : asked_says (Is false) ≡ says 0 (0 ∷ [])
-  pub not_asked : asked_says (asked.Refused (SharedRecord 5)) ≡ says 8 (5 ∷ [])
-  pub wrote : step_says (step.Wrote 7 3) ≡ says 0 (0 ∷ 7 ∷ 3 ∷ [])
-  pub saved : step_says (step.Saved 0 4) ≡ says 0 (1 ∷ 0 ∷ 4 ∷ [])
-  pub cleared : step_says (step.Cleared 0 2) ≡ says 0 (2 ∷ 0 ∷ 2 ∷ [])
-  pub not_stepped : step_says (step.Refused Differs) ≡ says 15 (0 ∷ [])
+  pub opens : opened_says (Ok some_sizes) ≡ says 0 (16909060 ∷ 84281096 ∷ 151653132 ∷ 219025168 ∷ 286397204 ∷ 353769240 ∷ 421141276 ∷ 488513312 ∷ [])
+  pub not_opened : opened_says (Err (BadEntry 3)) ≡ says 6 (3 ∷ [])
+  pub scans : listed_says (Ok 2) ≡ says 0 (2 ∷ [])
+  pub not_listed : listed_says (Err TooSmall) ≡ says 17 (0 ∷ [])
+  pub part : span_says (Ok (3, 5)) ≡ says 0 (3 ∷ 5 ∷ [])
+  pub no_part : span_says (Err (BadScan 4)) ≡ says 11 (4 ∷ [])
+  pub accepted : taken_says (Ok tt) ≡ says 0 []
+  pub not_taken : taken_says (Err NoRoom) ≡ says 13 (0 ∷ [])
+  pub yes : asked_says (Ok true) ≡ says 0 (1 ∷ [])
+  pub no : asked_says (Ok false) ≡ says 0 (0 ∷ [])
+  pub not_asked : asked_says (Err (SharedRecord 5)) ≡ says 8 (5 ∷ [])
+  pub wrote : step_says (Ok (step.Wrote 7 3)) ≡ says 0 (0 ∷ 7 ∷ 3 ∷ [])
+  pub saved : step_says (Ok (step.Saved 0 4)) ≡ says 0 (1 ∷ 0 ∷ 4 ∷ [])
+  pub cleared : step_says (Ok (step.Cleared 0 2)) ≡ says 0 (2 ∷ 0 ∷ 2 ∷ [])
+  pub not_stepped : step_says (Err Differs) ≡ says 15 (0 ∷ [])
   -- Saved and Cleared alone confirm
-  pub saved_confirms : is_confirmed (step.Saved 0 4) ≡ true
-  pub cleared_confirms : is_confirmed (step.Cleared 0 2) ≡ true
-  pub wrote_does_not : is_confirmed (step.Wrote 7 3) ≡ false
-  pub refused_does_not : is_confirmed (step.Refused Differs) ≡ false
+  pub saved_confirms : is_confirmed (Ok (step.Saved 0 4)) ≡ true
+  pub cleared_confirms : is_confirmed (Ok (step.Cleared 0 2)) ≡ true
+  pub wrote_does_not : is_confirmed (Ok (step.Wrote 7 3)) ≡ false
+  pub refused_does_not : is_confirmed (Err Differs) ≡ false
 
 -- ---- the bootstrap in bytes
 
@@ -207,13 +199,13 @@ scan15 = 0 ∷ 15 ∷ 0 ∷ 5 ∷ 0 ∷ 22 ∷ 0 ∷ 23 ∷ 0 ∷ 24 ∷ 0 ∷ 2
 pub record Scans : Type 0 where
   pub starts : starts_of bytes32 ≡ pos 772 ∷ pos 1286 ∷ pos 1800 ∷ pos 2314 ∷ pos 2828 ∷ pos 3342 ∷ pos 3856 ∷ pos 4370 ∷ pos 4884 ∷ pos 5398 ∷ pos 5912 ∷ pos 6426 ∷ pos 6940 ∷ pos 7454 ∷ pos 7968 ∷ []
   pub count : classes_of bytes32 ≡ 258
-  pub keeps_13 : ruled_of scan13 true ≡ Keeps 296 12
-  pub keeps_15 : ruled_of scan15 true ≡ Keeps 304 8
-  pub data_13 : data_of scan13 ≡ Part 296 308
-  pub data_15 : data_of scan15 ≡ Part 304 312
+  pub keeps_13 : ruled_of scan13 true ≡ Ok (296, 12)
+  pub keeps_15 : ruled_of scan15 true ≡ Ok (304, 8)
+  pub data_13 : data_of scan13 ≡ Ok (296, 308)
+  pub data_15 : data_of scan15 ≡ Ok (304, 312)
   -- class 0, 1 and on, to one past the last
-  pub classes_13 : table 15 (class_of scan13) ≡ Part 0 0 ∷ Part 32 160 ∷ Part 160 184 ∷ Part 184 192 ∷ Part 192 208 ∷ Part 208 216 ∷ Part 216 224 ∷ Part 224 232 ∷ Part 232 240 ∷ Part 240 248 ∷ Part 248 256 ∷ Part 256 264 ∷ Part 264 280 ∷ Part 280 296 ∷ Part 0 0 ∷ []
-  pub classes_15 : table 17 (class_of scan15) ≡ Part 0 0 ∷ Part 32 168 ∷ Part 168 176 ∷ Part 176 184 ∷ Part 184 192 ∷ Part 192 200 ∷ Part 200 208 ∷ Part 208 216 ∷ Part 216 224 ∷ Part 224 232 ∷ Part 232 240 ∷ Part 240 248 ∷ Part 248 256 ∷ Part 256 264 ∷ Part 264 288 ∷ Part 288 304 ∷ Part 0 0 ∷ []
+  pub classes_13 : table 15 (class_of scan13) ≡ Ok (0, 0) ∷ Ok (32, 160) ∷ Ok (160, 184) ∷ Ok (184, 192) ∷ Ok (192, 208) ∷ Ok (208, 216) ∷ Ok (216, 224) ∷ Ok (224, 232) ∷ Ok (232, 240) ∷ Ok (240, 248) ∷ Ok (248, 256) ∷ Ok (256, 264) ∷ Ok (264, 280) ∷ Ok (280, 296) ∷ Ok (0, 0) ∷ []
+  pub classes_15 : table 17 (class_of scan15) ≡ Ok (0, 0) ∷ Ok (32, 168) ∷ Ok (168, 176) ∷ Ok (176, 184) ∷ Ok (184, 192) ∷ Ok (192, 200) ∷ Ok (200, 208) ∷ Ok (208, 216) ∷ Ok (216, 224) ∷ Ok (224, 232) ∷ Ok (232, 240) ∷ Ok (240, 248) ∷ Ok (248, 256) ∷ Ok (256, 264) ∷ Ok (264, 288) ∷ Ok (288, 304) ∷ Ok (0, 0) ∷ []
 
 -- a scan of 13 classes with other bytes at a place
 abbrev pub with_bytes : ℕ → List ℕ → List ℕ
@@ -230,29 +222,29 @@ pub record Rules : Type 0 where
   pub one_most : rule1 65536 true ≡ true
   pub one_more : rule1 65537 true ≡ false
   pub one_read : rule1 65537 false ≡ true
-  pub one_none : ruled_of [] false ≡ Breaks 1
-  pub two_12 : ruled_of (with_bytes 0 (0 ∷ 12 ∷ [])) true ≡ Breaks 2
-  pub two_16 : ruled_of (with_bytes 0 (0 ∷ 16 ∷ [])) true ≡ Breaks 2
-  pub two_negative : ruled_of (with_bytes 0 (128 ∷ 13 ∷ [])) true ≡ Breaks 2
-  pub three_first : ruled_of (with_bytes 2 (0 ∷ 6 ∷ [])) true ≡ Breaks 3
-  pub three_second : ruled_of (with_bytes 4 (0 ∷ 20 ∷ [])) true ≡ Breaks 3
-  pub three_equal : ruled_of (with_bytes 26 (0 ∷ 33 ∷ [])) true ≡ Breaks 3
-  pub three_last : ruled_of (with_bytes 26 (0 ∷ 34 ∷ [])) true ≡ Breaks 3
-  pub three_negative : ruled_of (with_bytes 26 (255 ∷ 255 ∷ [])) true ≡ Breaks 3
+  pub one_none : ruled_of [] false ≡ Err 1
+  pub two_12 : ruled_of (with_bytes 0 (0 ∷ 12 ∷ [])) true ≡ Err 2
+  pub two_16 : ruled_of (with_bytes 0 (0 ∷ 16 ∷ [])) true ≡ Err 2
+  pub two_negative : ruled_of (with_bytes 0 (128 ∷ 13 ∷ [])) true ≡ Err 2
+  pub three_first : ruled_of (with_bytes 2 (0 ∷ 6 ∷ [])) true ≡ Err 3
+  pub three_second : ruled_of (with_bytes 4 (0 ∷ 20 ∷ [])) true ≡ Err 3
+  pub three_equal : ruled_of (with_bytes 26 (0 ∷ 33 ∷ [])) true ≡ Err 3
+  pub three_last : ruled_of (with_bytes 26 (0 ∷ 34 ∷ [])) true ≡ Err 3
+  pub three_negative : ruled_of (with_bytes 26 (255 ∷ 255 ∷ [])) true ≡ Err 3
   -- HEADLEN 292, 280, 288, 304 and 312, and no whole number
-  pub four_multiple : ruled_of (with_bytes 32 (double 64 114 64)) true ≡ Breaks 4
-  pub four_low : ruled_of (with_bytes 32 (double 64 113 128)) true ≡ Breaks 4
-  pub four_least : ruled_of (with_bytes 32 (double 64 114 0)) false ≡ Keeps 288 12
-  pub four_sum : ruled_of (with_bytes 32 (double 64 115 0)) true ≡ Breaks 5
-  pub four_high : ruled_of (with_bytes 32 (double 64 115 128)) true ≡ Breaks 4
-  pub four_whole : ruled_of (with_bytes 32 (double 192 114 128)) true ≡ Breaks 4
+  pub four_multiple : ruled_of (with_bytes 32 (double 64 114 64)) true ≡ Err 4
+  pub four_low : ruled_of (with_bytes 32 (double 64 113 128)) true ≡ Err 4
+  pub four_least : ruled_of (with_bytes 32 (double 64 114 0)) false ≡ Ok (288, 12)
+  pub four_sum : ruled_of (with_bytes 32 (double 64 115 0)) true ≡ Err 5
+  pub four_high : ruled_of (with_bytes 32 (double 64 115 128)) true ≡ Err 4
+  pub four_whole : ruled_of (with_bytes 32 (double 192 114 128)) true ≡ Err 4
   -- DATALEN 10, 16, 8 and 0, and no whole number
-  pub five_multiple : ruled_of (with_bytes 40 (double 64 36 0)) true ≡ Breaks 5
-  pub five_high : ruled_of (with_bytes 40 (double 64 48 0)) true ≡ Breaks 5
-  pub five_none : ruled_of (with_bytes 40 (double 0 0 0)) false ≡ Keeps 296 0
-  pub five_whole : ruled_of (with_bytes 40 (double 128 0 0)) true ≡ Breaks 5
-  pub six : ruled_of (with_bytes 40 (double 64 32 0)) true ≡ Breaks 6
-  pub six_read : ruled_of (with_bytes 40 (double 64 32 0)) false ≡ Keeps 296 8
+  pub five_multiple : ruled_of (with_bytes 40 (double 64 36 0)) true ≡ Err 5
+  pub five_high : ruled_of (with_bytes 40 (double 64 48 0)) true ≡ Err 5
+  pub five_none : ruled_of (with_bytes 40 (double 0 0 0)) false ≡ Ok (296, 0)
+  pub five_whole : ruled_of (with_bytes 40 (double 128 0 0)) true ≡ Err 5
+  pub six : ruled_of (with_bytes 40 (double 64 32 0)) true ≡ Err 6
+  pub six_read : ruled_of (with_bytes 40 (double 64 32 0)) false ≡ Ok (296, 8)
 
 -- ---- an index: N 2, N+D 10, capacity 4
 
@@ -270,21 +262,21 @@ abbrev pub index : ℕ → Run → Run → Run → Opened
 index u a b c = index_of (used u) (runs (a ∷ b ∷ c ∷ []))
 
 pub record Index : Type 0 where
-  pub all_records : index 3 (run 3 10) (run 0 0) (run 0 0) ≡ opened.Opens (used 3)
-  pub apart : index 3 (run 6 8) (run 3 5) (run 9 10) ≡ opened.Opens (used 3)
-  pub index_record : index 3 (run 3 3) (run 2 10) (run 0 0) ≡ opened.Refused (BadEntry 2)
-  pub past_d : index 3 (run 3 3) (run 4 11) (run 0 0) ≡ opened.Refused (BadEntry 2)
-  pub turned : index 3 (run 3 3) (run 5 4) (run 0 0) ≡ opened.Refused (BadEntry 2)
-  pub first_none : index 3 (run 0 5) (run 0 0) (run 0 0) ≡ opened.Refused (BadEntry 1)
-  pub last_none : index 3 (run 0 0) (run 0 0) (run 5 0) ≡ opened.Refused (BadEntry 3)
-  pub above : index 2 (run 0 0) (run 0 0) (run 3 3) ≡ opened.Refused (AboveUse 3)
-  pub bad_above : index 2 (run 0 0) (run 0 0) (run 0 1) ≡ opened.Refused (AboveUse 3)
-  pub at_the_end : index 3 (run 3 5) (run 6 6) (run 5 5) ≡ opened.Refused (SharedRecord 3)
-  pub at_the_front : index 3 (run 6 8) (run 3 6) (run 0 0) ≡ opened.Refused (SharedRecord 2)
-  pub within : index 3 (run 3 9) (run 10 10) (run 5 6) ≡ opened.Refused (SharedRecord 3)
-  pub around : index 3 (run 5 6) (run 3 9) (run 0 0) ≡ opened.Refused (SharedRecord 2)
-  pub six_first : index 2 (run 3 4) (run 4 11) (run 3 3) ≡ opened.Refused (BadEntry 2)
-  pub seven_next : index 2 (run 3 4) (run 4 5) (run 3 3) ≡ opened.Refused (AboveUse 3)
+  pub all_records : index 3 (run 3 10) (run 0 0) (run 0 0) ≡ Ok (used 3)
+  pub apart : index 3 (run 6 8) (run 3 5) (run 9 10) ≡ Ok (used 3)
+  pub index_record : index 3 (run 3 3) (run 2 10) (run 0 0) ≡ Err (BadEntry 2)
+  pub past_d : index 3 (run 3 3) (run 4 11) (run 0 0) ≡ Err (BadEntry 2)
+  pub turned : index 3 (run 3 3) (run 5 4) (run 0 0) ≡ Err (BadEntry 2)
+  pub first_none : index 3 (run 0 5) (run 0 0) (run 0 0) ≡ Err (BadEntry 1)
+  pub last_none : index 3 (run 0 0) (run 0 0) (run 5 0) ≡ Err (BadEntry 3)
+  pub above : index 2 (run 0 0) (run 0 0) (run 3 3) ≡ Err (AboveUse 3)
+  pub bad_above : index 2 (run 0 0) (run 0 0) (run 0 1) ≡ Err (AboveUse 3)
+  pub at_the_end : index 3 (run 3 5) (run 6 6) (run 5 5) ≡ Err (SharedRecord 3)
+  pub at_the_front : index 3 (run 6 8) (run 3 6) (run 0 0) ≡ Err (SharedRecord 2)
+  pub within : index 3 (run 3 9) (run 10 10) (run 5 6) ≡ Err (SharedRecord 3)
+  pub around : index 3 (run 5 6) (run 3 9) (run 0 0) ≡ Err (SharedRecord 2)
+  pub six_first : index 2 (run 3 4) (run 4 11) (run 3 3) ≡ Err (BadEntry 2)
+  pub seven_next : index 2 (run 3 4) (run 4 5) (run 3 3) ≡ Err (AboveUse 3)
 
 -- the lowest place for k records between records 3-4 and 7-8 of a room of 10; the lowest empty slot
 abbrev pub place : ℕ → ℕ
@@ -323,34 +315,34 @@ file_sizes = record { n = 2; d = 3; l = 512; m = 128; u = 4; counter = 429496729
 pub record File : Type 0 where
   pub long : length file ≡ 2560
   -- "Entry U itself may be empty"
-  pub opens : open_of file ≡ opened.Opens file_sizes
+  pub opens : open_of file ≡ Ok file_sizes
   -- "slot, first and last as three 32-bit numbers per scan in slot order, and no further element"
-  pub lists : listed_of file (replicate 11 9) ≡ listed.Scans 3
+  pub lists : listed_of file (replicate 11 9) ≡ Ok 3
   pub lines : listed_out file (replicate 11 9) ≡ 1 ∷ 4 ∷ 4 ∷ 2 ∷ 3 ∷ 3 ∷ 3 ∷ 5 ∷ 5 ∷ 9 ∷ 9 ∷ []
-  pub no_room : listed_of file (replicate 8 9) ≡ listed.Refused TooSmall
-  pub show_1 : show_of file 1 ≡ Part 1536 2048
-  pub show_2 : show_of file 2 ≡ Part 1024 1536
-  pub show_3 : show_of file 3 ≡ Part 2048 2560
-  pub show_4 : show_of file 4 ≡ span.Refused EmptySlot
-  pub show_0 : show_of file 0 ≡ span.Refused NoSuchSlot
-  pub show_5 : show_of file 5 ≡ span.Refused NoSuchSlot
-  pub read_1 : read_of file 1 ≡ Part 1536 1844
-  pub read_2 : read_of file 2 ≡ Part 1024 1336
-  pub read_3 : read_of file 3 ≡ span.Refused (BadScan 2)
-  pub read_4 : read_of file 4 ≡ span.Refused EmptySlot
-  pub entry_1 : (found_of file 1).entry.source ≡ 17 ∷ 18 ∷ 19 ∷ 20 ∷ 21 ∷ 22 ∷ 23 ∷ 24 ∷ 25 ∷ 26 ∷ 27 ∷ 28 ∷ 29 ∷ 30 ∷ 31 ∷ 32 ∷ []
-  pub entry_2 : (found_of file 2).entry.last ≡ 3
-  pub entry_4 : (found_of file 4).answer ≡ taken.Refused EmptySlot
+  pub no_room : listed_of file (replicate 8 9) ≡ Err TooSmall
+  pub show_1 : show_of file 1 ≡ Ok (1536, 2048)
+  pub show_2 : show_of file 2 ≡ Ok (1024, 1536)
+  pub show_3 : show_of file 3 ≡ Ok (2048, 2560)
+  pub show_4 : show_of file 4 ≡ Err EmptySlot
+  pub show_0 : show_of file 0 ≡ Err NoSuchSlot
+  pub show_5 : show_of file 5 ≡ Err NoSuchSlot
+  pub read_1 : read_of file 1 ≡ Ok (1536, 1844)
+  pub read_2 : read_of file 2 ≡ Ok (1024, 1336)
+  pub read_3 : read_of file 3 ≡ Err (BadScan 2)
+  pub read_4 : read_of file 4 ≡ Err EmptySlot
+  pub entry_1 : (fields_in (found_of file 1)).source ≡ 17 ∷ 18 ∷ 19 ∷ 20 ∷ 21 ∷ 22 ∷ 23 ∷ 24 ∷ 25 ∷ 26 ∷ 27 ∷ 28 ∷ 29 ∷ 30 ∷ 31 ∷ 32 ∷ []
+  pub entry_2 : (fields_in (found_of file 2)).last ≡ 3
+  pub entry_4 : taken_in (found_of file 4) ≡ Err EmptySlot
 
 -- the part that a span names, of five bytes, and where it begins
 pub record Parts : Type 0 where
-  pub bytes : part_of (4 ∷ 5 ∷ 6 ∷ 7 ∷ 8 ∷ []) (Part 1 3) ≡ 5 ∷ 6 ∷ []
-  pub place : span_place (4 ∷ 5 ∷ 6 ∷ 7 ∷ 8 ∷ []) (Part 1 3) ≡ 1
-  pub to_the_end : span_place (4 ∷ 5 ∷ 6 ∷ 7 ∷ 8 ∷ []) (Part 4 9) ≡ 4
-  pub past_the_end : span_place (4 ∷ 5 ∷ 6 ∷ 7 ∷ 8 ∷ []) (Part 5 9) ≡ 0
-  pub empty : span_place (4 ∷ 5 ∷ 6 ∷ 7 ∷ 8 ∷ []) (Part 3 3) ≡ 0
-  pub refused : span_place (4 ∷ 5 ∷ 6 ∷ 7 ∷ 8 ∷ []) (span.Refused EmptySlot) ≡ 0
-  pub no_bytes : part_of (4 ∷ 5 ∷ 6 ∷ 7 ∷ 8 ∷ []) (span.Refused EmptySlot) ≡ []
+  pub bytes : part_of (4 ∷ 5 ∷ 6 ∷ 7 ∷ 8 ∷ []) (Ok (1, 3)) ≡ 5 ∷ 6 ∷ []
+  pub place : span_place (4 ∷ 5 ∷ 6 ∷ 7 ∷ 8 ∷ []) (Ok (1, 3)) ≡ 1
+  pub to_the_end : span_place (4 ∷ 5 ∷ 6 ∷ 7 ∷ 8 ∷ []) (Ok (4, 9)) ≡ 4
+  pub past_the_end : span_place (4 ∷ 5 ∷ 6 ∷ 7 ∷ 8 ∷ []) (Ok (5, 9)) ≡ 0
+  pub empty : span_place (4 ∷ 5 ∷ 6 ∷ 7 ∷ 8 ∷ []) (Ok (3, 3)) ≡ 0
+  pub refused : span_place (4 ∷ 5 ∷ 6 ∷ 7 ∷ 8 ∷ []) (Err EmptySlot) ≡ 0
+  pub no_bytes : part_of (4 ∷ 5 ∷ 6 ∷ 7 ∷ 8 ∷ []) (Err EmptySlot) ≡ []
 
 -- ---- job and file
 
@@ -426,30 +418,30 @@ old_file = old_boot ++ (old_index ++ (scan15 ++ (replicate 200 0 ++ (scan13 ++ (
 
 pub record OldFile : Type 0 where
   pub long : length old_file ≡ 2560
-  pub opens : open_of old_file ≡ opened.Opens (record { n = 2; d = 3; l = 512; m = 128; u = 4; counter = 65535; kind = 0; version = 0 })
-  pub lists : listed_of old_file (replicate 11 9) ≡ listed.Scans 3
+  pub opens : open_of old_file ≡ Ok (record { n = 2; d = 3; l = 512; m = 128; u = 4; counter = 65535; kind = 0; version = 0 })
+  pub lists : listed_of old_file (replicate 11 9) ≡ Ok 3
   pub lines : listed_out old_file (replicate 11 9) ≡ 1 ∷ 4 ∷ 4 ∷ 2 ∷ 3 ∷ 3 ∷ 3 ∷ 5 ∷ 5 ∷ 9 ∷ 9 ∷ []
-  pub show_1 : show_of old_file 1 ≡ Part 1536 2048
-  pub show_2 : show_of old_file 2 ≡ Part 1024 1536
-  pub read_1 : read_of old_file 1 ≡ Part 1536 1844
+  pub show_1 : show_of old_file 1 ≡ Ok (1536, 2048)
+  pub show_2 : show_of old_file 2 ≡ Ok (1024, 1536)
+  pub read_1 : read_of old_file 1 ≡ Ok (1536, 1844)
   -- "any other is listed and shown, but not read"; 18 stands after 10 and before 11
-  pub read_2 : read_of old_file 2 ≡ span.Refused NotVersionOne
-  pub read_3 : read_of old_file 3 ≡ span.Refused (BadScan 2)
-  pub read_4 : read_of old_file 4 ≡ span.Refused EmptySlot
-  pub eighteen_first : read_of (write old_file 773 (1 ∷ [])) 3 ≡ span.Refused NotVersionOne
-  pub magic : (found_of old_file 1).entry.magic ≡ pos 2
-  pub position : (found_of old_file 1).entry.position ≡ negsuc 2
+  pub read_2 : read_of old_file 2 ≡ Err NotVersionOne
+  pub read_3 : read_of old_file 3 ≡ Err (BadScan 2)
+  pub read_4 : read_of old_file 4 ≡ Err EmptySlot
+  pub eighteen_first : read_of (write old_file 773 (1 ∷ [])) 3 ≡ Err NotVersionOne
+  pub magic : (fields_in (found_of old_file 1)).magic ≡ pos 2
+  pub position : (fields_in (found_of old_file 1)).position ≡ negsuc 2
   -- -1 for D, for the first record of slot 1, and above U
-  pub minus_d : open_of (write old_file 2 (255 ∷ 255 ∷ [])) ≡ opened.Refused OutOfRange
-  pub minus_first : open_of (write old_file 512 (255 ∷ 255 ∷ [])) ≡ opened.Refused (BadEntry 1)
-  pub minus_above : open_of (write (write old_file 9 (3 ∷ [])) 896 (128 ∷ 0 ∷ [])) ≡ opened.Refused (AboveUse 4)
-  pub shared : open_of (write old_file 641 (4 ∷ 0 ∷ 4 ∷ [])) ≡ opened.Refused (SharedRecord 2)
+  pub minus_d : open_of (write old_file 2 (255 ∷ 255 ∷ [])) ≡ Err OutOfRange
+  pub minus_first : open_of (write old_file 512 (255 ∷ 255 ∷ [])) ≡ Err (BadEntry 1)
+  pub minus_above : open_of (write (write old_file 9 (3 ∷ [])) 896 (128 ∷ 0 ∷ [])) ≡ Err (AboveUse 4)
+  pub shared : open_of (write old_file 641 (4 ∷ 0 ∷ 4 ∷ [])) ≡ Err (SharedRecord 2)
   -- "2 now means a save, keep or clear on an old file and keeps its place": after 1 and before 4
-  pub no_save : taken_says (save_of old_file 4 scan13 bytes54).answer ≡ says 2 (0 ∷ [])
-  pub no_keep : taken_says (keep_of old_file scan13 bytes54).answer ≡ says 2 (0 ∷ [])
-  pub no_clear : taken_says (clear_of old_file 1).answer ≡ says 2 (0 ∷ [])
-  pub before_4 : taken_says (clear_of (write old_file 2 (255 ∷ 255 ∷ [])) 1).answer ≡ says 2 (0 ∷ [])
-  pub after_1 : taken_says (clear_of (take 511 old_file) 1).answer ≡ says 1 (0 ∷ [])
+  pub no_save : taken_says (taken_in (save_of old_file 4 scan13 bytes54)) ≡ says 2 (0 ∷ [])
+  pub no_keep : taken_says (taken_in (keep_of old_file scan13 bytes54)) ≡ says 2 (0 ∷ [])
+  pub no_clear : taken_says (taken_in (clear_of old_file 1)) ≡ says 2 (0 ∷ [])
+  pub before_4 : taken_says (taken_in (clear_of (write old_file 2 (255 ∷ 255 ∷ [])) 1)) ≡ says 2 (0 ∷ [])
+  pub after_1 : taken_says (taken_in (clear_of (take 511 old_file) 1)) ≡ says 1 (0 ∷ [])
   -- "a step on an old file gets 14", whatever the job expects
   pub no_step : agrees old_file [] (clear_with 1 0 (take 32 old_boot)) ≡ false
 
@@ -496,18 +488,18 @@ small_file = write file 20 (0 ∷ 0 ∷ 255 ∷ 255 ∷ 0 ∷ 0 ∷ 0 ∷ 0 ∷ 
 
 pub record Conversions : Type 0 where
   -- "Old to new needs magic 2 at each scan": slot 2's is 1; that of the empty slot 4 is 3, and is not asked
-  pub magic_1 : convert_of 1 old_file (replicate 1024 88) ≡ taken.Refused NotConvertible
-  pub accepted : convert_of 1 old_twos (replicate 1024 88) ≡ taken.Accepted
+  pub magic_1 : convert_of 1 old_file (replicate 1024 88) ≡ Err NotConvertible
+  pub accepted : convert_of 1 old_twos (replicate 1024 88) ≡ Ok tt
   -- "17 for a second buffer under N x L bytes", before 19 and "also for a file already in the wanted form"
-  pub short : convert_of 1 old_file (replicate 1023 88) ≡ taken.Refused TooSmall
-  pub short_already : convert_of 0 old_file (replicate 1023 88) ≡ taken.Refused TooSmall
-  pub already : convert_of 0 old_twos (replicate 1024 88) ≡ taken.Refused NotConvertible
-  pub already_current : convert_of 1 small_file (replicate 1024 88) ≡ taken.Refused NotConvertible
+  pub short : convert_of 1 old_file (replicate 1023 88) ≡ Err TooSmall
+  pub short_already : convert_of 0 old_file (replicate 1023 88) ≡ Err TooSmall
+  pub already : convert_of 0 old_twos (replicate 1024 88) ≡ Err NotConvertible
+  pub already_current : convert_of 1 small_file (replicate 1024 88) ≡ Err NotConvertible
   -- open's own before both
-  pub shared : convert_of 0 (write old_file 641 (4 ∷ 0 ∷ 4 ∷ [])) [] ≡ taken.Refused (SharedRecord 2)
+  pub shared : convert_of 0 (write old_file 641 (4 ∷ 0 ∷ 4 ∷ [])) [] ≡ Err (SharedRecord 2)
   -- type 1, and a counter of 32 bits
-  pub type_1 : convert_of 0 (write small_file 27 (1 ∷ [])) (replicate 1024 88) ≡ taken.Refused NotConvertible
-  pub counter : convert_of 0 (write small_file 21 (1 ∷ [])) (replicate 1024 88) ≡ taken.Refused NotConvertible
+  pub type_1 : convert_of 0 (write small_file 27 (1 ∷ [])) (replicate 1024 88) ≡ Err NotConvertible
+  pub counter : convert_of 0 (write small_file 21 (1 ∷ [])) (replicate 1024 88) ≡ Err NotConvertible
   pub untouched : converted_out 0 old_twos (replicate 1024 88) ≡ replicate 1024 88
   -- "Convert the bootstrap and index into a second lent buffer, N records, the rest of that buffer untouched"
   pub to_current : converted_out 1 old_twos (replicate 1026 88)
@@ -553,10 +545,10 @@ pub record UsedNumber : Type 0 where
   pub saved_2 : used_after file file_sizes (job_with 2 308 2560 5 0) ≡ 3
   pub cleared_3 : used_after (write file 768 (replicate 8 0)) file_sizes (clear_with 3 0 []) ≡ 3
   -- "A clear of that highest slot"; never a save
-  pub lowers_3 : (clear_of file 3).job.lowers ≡ true
-  pub lowers_1 : (clear_of file 1).job.lowers ≡ false
-  pub taken_3 : (save_of (write file 768 (replicate 8 0)) 3 scan13 bytes54).job.slot ≡ 3
-  pub never_3 : (save_of (write file 768 (replicate 8 0)) 3 scan13 bytes54).job.lowers ≡ false
+  pub lowers_3 : (job_in (clear_of file 3)).lowers ≡ true
+  pub lowers_1 : (job_in (clear_of file 1)).lowers ≡ false
+  pub taken_3 : (job_in (save_of (write file 768 (replicate 8 0)) 3 scan13 bytes54)).slot ≡ 3
+  pub never_3 : (job_in (save_of (write file 768 (replicate 8 0)) 3 scan13 bytes54)).lowers ≡ false
   -- "record 1 again with U lowered to what is left, or 0; its counter isn't raised twice"
   pub lowered_2 : lowered (write file 768 (replicate 8 0)) file_sizes ≡ record { n = 2; d = 3; l = 512; m = 128; u = 2; counter = 4294967295; kind = 1; version = 1 }
   pub lowered_0 : lowered (write file 512 (replicate 512 0)) file_sizes ≡ record { n = 2; d = 3; l = 512; m = 128; u = 0; counter = 4294967295; kind = 1; version = 1 }
@@ -578,8 +570,8 @@ pub record OldRun : Type 0 where
   pub nothing : many_of (record { first = 0; last = 0 }) ≡ 0
   pub one : many_of (record { first = 4; last = 4 }) ≡ 1
   pub three : many_of (record { first = 7; last = 9 }) ≡ 3
-  pub cleared : ((clear_of file 1).job.old ≡ 4) × ((clear_of file 1).job.many ≡ 1)
-  pub refused : ((clear_of file 4).job.old ≡ 0) × ((clear_of file 4).job.many ≡ 0)
+  pub cleared : ((job_in (clear_of file 1)).old ≡ 4) × ((job_in (clear_of file 1)).many ≡ 1)
+  pub refused : ((job_in (clear_of file 4)).old ≡ 0) × ((job_in (clear_of file 4)).many ≡ 0)
   -- "its writes grow by the run's length": data, record 1, entry, the lowered U and then zeros, "lowest first"
   pub total : total_of file_sizes (gone_with 3 2 0) ≡ 5
   pub first_zeros : get_or (writes_of file file_sizes (gone_with 3 2 0) []) 3 no_write ≡ record { at = 1024; bytes = replicate 512 0; record_no = 3 }
@@ -600,13 +592,13 @@ pub record OldRun : Type 0 where
 
 -- "whether every data record in no listed scan is all zeros": all three are listed, then record 5 is not, then record 3
 pub record Gaps : Type 0 where
-  pub listed : gaps_of file ≡ Is true
-  pub zeros : gaps_of (write file 768 (replicate 8 0)) ≡ Is true
-  pub last_byte : gaps_of (write (write file 768 (replicate 8 0)) 2559 (1 ∷ [])) ≡ Is false
-  pub left : gaps_of (write file 640 (replicate 8 0)) ≡ Is false
+  pub listed : gaps_of file ≡ Ok true
+  pub zeros : gaps_of (write file 768 (replicate 8 0)) ≡ Ok true
+  pub last_byte : gaps_of (write (write file 768 (replicate 8 0)) 2559 (1 ∷ [])) ≡ Ok false
+  pub left : gaps_of (write file 640 (replicate 8 0)) ≡ Ok false
   -- a record past N+D is none
-  pub beyond : gaps_of (file ++ replicate 512 7) ≡ Is true
-  pub refused : gaps_of [] ≡ asked.Refused TooShort
+  pub beyond : gaps_of (file ++ replicate 512 7) ≡ Ok true
+  pub refused : gaps_of [] ≡ Err TooShort
 
 -- ---- scans without an index
 
@@ -619,7 +611,7 @@ second_with at bytes = write file (1536 + at) bytes
 
 -- 02, 2026-06: "the first record, the last by HEADLEN + DATALEN and class 1's third word, SCAN"; record 5 holds no scan
 pub record Finds : Type 0 where
-  pub found : report_of file (replicate 6 9) ≡ listed.Scans 2
+  pub found : report_of file (replicate 6 9) ≡ Ok 2
   pub lines : report_out file (replicate 8 9) ≡ 3 ∷ 3 ∷ 0 ∷ 4 ∷ 4 ∷ 0 ∷ 9 ∷ 9 ∷ []
   -- bytes 48 to 55 of the run
   pub word : report_out (first_with 48 (1 ∷ 2 ∷ 3 ∷ 4 ∷ 5 ∷ 6 ∷ 7 ∷ 8 ∷ 9 ∷ [])) (replicate 6 9) ≡ 3 ∷ 3 ∷ 72623859790382856 ∷ 4 ∷ 4 ∷ 0 ∷ []
@@ -638,13 +630,13 @@ pub record Finds : Type 0 where
   -- both forms; the first scan's magic number is 1
   pub old : report_out old_file (replicate 6 9) ≡ 3 ∷ 3 ∷ 0 ∷ 4 ∷ 4 ∷ 0 ∷ []
   -- "Refusals: 1 to 5, then 17"
-  pub no_room : (report_of file (replicate 5 9) ≡ listed.Refused TooSmall) × (report_out file (replicate 5 9) ≡ replicate 5 9)
-  pub short : report_of (take 511 file) [] ≡ listed.Refused TooShort
-  pub version_2 : report_of (write file 31 (2 ∷ [])) [] ≡ listed.Refused UnknownForm
-  pub range : report_of (write file 3 (1 ∷ [])) [] ≡ listed.Refused OutOfRange
-  pub cut : report_of (take 2559 file) [] ≡ listed.Refused PastEnd
+  pub no_room : (report_of file (replicate 5 9) ≡ Err TooSmall) × (report_out file (replicate 5 9) ≡ replicate 5 9)
+  pub short : report_of (take 511 file) [] ≡ Err TooShort
+  pub version_2 : report_of (write file 31 (2 ∷ [])) [] ≡ Err UnknownForm
+  pub range : report_of (write file 3 (1 ∷ [])) [] ≡ Err OutOfRange
+  pub cut : report_of (take 2559 file) [] ≡ Err PastEnd
   -- D is 0, and 1
-  pub no_data : report_of (write file 7 (0 ∷ [])) [] ≡ listed.Scans 0
+  pub no_data : report_of (write file 7 (0 ∷ [])) [] ≡ Ok 0
   pub one_data_record : report_out (write file 7 (1 ∷ [])) (replicate 6 9) ≡ 3 ∷ 3 ∷ 0 ∷ 9 ∷ 9 ∷ 9 ∷ []
 
 -- ---- the slow link
@@ -702,21 +694,23 @@ pub record Links : Type 0 where
   pub row : row_after (record { n = 2; d = 0; l = 512; m = 512; u = 0; counter = 0; kind = 0; version = 1 }) 508 (8 ∷ 8 ∷ 8 ∷ 8 ∷ 0 ∷ 0 ∷ 0 ∷ 3 ∷ 0 ∷ 0 ∷ 0 ∷ 4 ∷ 8 ∷ []) (9 ∷ 9 ∷ 5 ∷ 6 ∷ []) ≡ 3 ∷ 4 ∷ 5 ∷ 6 ∷ []
   pub row_of_a_piece : took_row (link_at 511 1024) (8 ∷ 0 ∷ 0 ∷ 0 ∷ 4 ∷ []) (replicate 10 9) ≡ 4 ∷ replicate 9 9
   -- "17 at any call lent a shorter row": a link of zeros, the link as it was, and the row as it was
-  pub begins : begin_of 700 (replicate 8192 9) ≡ record { answer = taken.Accepted; link = record { span = 700; came = 0; ends = 0; boot = replicate 32 0 } }
-  pub begins_not : begin_of 700 (replicate 8191 9) ≡ record { answer = taken.Refused TooSmall; link = record { span = 0; came = 0; ends = 0; boot = replicate 32 0 } }
-  pub takes : take_of (link_at 1022 1024) (8 ∷ []) (replicate 8193 9) ≡ record { answer = taken.Accepted; link = link_at 1023 1024 }
-  pub takes_not : take_of (link_at 1022 1024) (8 ∷ []) (replicate 8191 9) ≡ record { answer = taken.Refused TooSmall; link = link_at 1022 1024 }
+  pub begins : begin_of 700 (replicate 8192 9) ≡ Ok (record { span = 700; came = 0; ends = 0; boot = replicate 32 0 })
+  pub begins_not : begin_of 700 (replicate 8191 9) ≡ Err TooSmall
+  pub no_link : link_in (fresh_link 0) (begin_of 700 (replicate 8191 9)) ≡ record { span = 0; came = 0; ends = 0; boot = replicate 32 0 }
+  pub takes : take_of (link_at 1022 1024) (8 ∷ []) (replicate 8193 9) ≡ Ok (link_at 1023 1024)
+  pub takes_not : take_of (link_at 1022 1024) (8 ∷ []) (replicate 8191 9) ≡ Err TooSmall
+  pub link_stays : link_in (link_at 1022 1024) (take_of (link_at 1022 1024) (8 ∷ []) (replicate 8191 9)) ≡ link_at 1022 1024
   pub takes_row : take_row (link_at 511 1024) (8 ∷ 0 ∷ 0 ∷ 0 ∷ 4 ∷ []) (replicate 8192 9) ≡ 4 ∷ replicate 8191 9
   pub takes_no_row : take_row (link_at 511 1024) (8 ∷ 0 ∷ 0 ∷ 0 ∷ 4 ∷ []) (replicate 10 9) ≡ replicate 10 9
   -- "Finish: 17; length < 512: 1; fewer than 32 bytes came: 20; the bootstrap's own; fewer than N x L came: 20; then 6 to 8"
-  pub small : finish_of (link_of 511 31) (replicate 8191 9) ≡ opened.Refused TooSmall
-  pub short : finish_of (link_of 511 31) link-row ≡ opened.Refused TooShort
-  pub no_boot : finish_of (link_of 512 31) link-row ≡ opened.Refused NotAllCame
-  pub past_length : finish_of (link_of 2559 32) link-row ≡ opened.Refused PastEnd
-  pub unknown : finish_of (record { span = 2560; came = 32; ends = 0; boot = write (take 32 file_boot) 31 (2 ∷ []) }) link-row ≡ opened.Refused UnknownForm
-  pub not_all : finish_of (link_at 1023 1024) (replicate 8192 9) ≡ opened.Refused NotAllCame
-  pub opens : finish_of (link_at 1024 1024) link-row ≡ opened.Opens file_sizes
-  pub shared : finish_of (link_at 1024 1024) (4 ∷ 4 ∷ 3 ∷ 4 ∷ drop 4 link-row) ≡ opened.Refused (SharedRecord 2)
+  pub small : finish_of (link_of 511 31) (replicate 8191 9) ≡ Err TooSmall
+  pub short : finish_of (link_of 511 31) link-row ≡ Err TooShort
+  pub no_boot : finish_of (link_of 512 31) link-row ≡ Err NotAllCame
+  pub past_length : finish_of (link_of 2559 32) link-row ≡ Err PastEnd
+  pub unknown : finish_of (record { span = 2560; came = 32; ends = 0; boot = write (take 32 file_boot) 31 (2 ∷ []) }) link-row ≡ Err UnknownForm
+  pub not_all : finish_of (link_at 1023 1024) (replicate 8192 9) ≡ Err NotAllCame
+  pub opens : finish_of (link_at 1024 1024) link-row ≡ Ok file_sizes
+  pub shared : finish_of (link_at 1024 1024) (4 ∷ 4 ∷ 3 ∷ 4 ∷ drop 4 link-row) ≡ Err (SharedRecord 2)
 
 -- ---- zeros
 

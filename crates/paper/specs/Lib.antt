@@ -1,4 +1,5 @@
 pub mod Refusals
+pub mod Answers
 pub mod Sizes
 pub mod Index
 pub mod Entry

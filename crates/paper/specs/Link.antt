@@ -1,5 +1,6 @@
 -- 02, 2026-07: "Opening over the slow link". What link and row are after each call, whatever they were before it, and what finish says of them.
-use Rattle.std.specs.Prelude.{ℕ, ◌+◌, ◌-◌, ◌*◌, ◌/◌, ◌%◌, min, cond, List, [], ◌∷◌, ◌++◌, ltb, eqb, length, take, drop, get_or, replicate}
+use Rattle.std.specs.Prelude.{ℕ, ◌+◌, ◌-◌, ◌*◌, ◌/◌, ◌%◌, min, cond, List, [], ◌∷◌, ◌++◌, ltb, eqb, length, take, drop, get_or, replicate, Ok, Err}
+use Rattle.std.specs.Result.{result_unwrap_or}
 use Rattle.lent.specs.Number.{widened}
 use Rattle.lent.specs.Lists.{table}
 use Rattle.lent.specs.Checks.{Check, check, judge}
@@ -9,12 +10,8 @@ use Rattle.paper.specs.declared.sizes.Sizes.{Sizes}
 use Rattle.paper.specs.declared.sizes.Run.{Run}
 use Rattle.paper.specs.declared.refusal.Refusal.{Refusal}
 use Rattle.paper.specs.declared.refusal.Refusal.TheVariants.{TooSmall, NotAllCame}
-use Rattle.paper.specs.declared.answer.Opened.{Opened}
-use Rattle.paper.specs.declared.answer.Opened.TheVariants as opened
-use Rattle.paper.specs.declared.answer.Taken.{Taken}
-use Rattle.paper.specs.declared.answer.Taken.TheVariants as taken
+use Rattle.paper.specs.Answers.{Opened, Linked}
 use Rattle.paper.specs.declared.link.Link.{Link}
-use Rattle.paper.specs.declared.link.Linked.{Linked}
 use Rattle.paper.specs.Sizes.{sizes_of, by_form, capacity_of, home_of, shaped, short, size_checks}
 use Rattle.paper.specs.Index.{row_run, index_checks}
 
@@ -99,16 +96,17 @@ took_row k p row = row_after (sizes_of (boot_after k p)) (headed k p).came (body
 abbrev pub row_short : List ℕ → Check Refusal
 row_short row = check (ltb (length row) 8192) TooSmall
 
-abbrev pub link_answer : List ℕ → Taken
-link_answer row = judge taken.Refused (row_short row ∷ []) taken.Accepted
-
--- begin; refused it "hands back a link of zeros (a judging of length 0)". The row stays as it is.
+-- begin. The row stays as it is.
 unfoldable pub begin_of : ℕ → List ℕ → Linked
-begin_of len row = record { answer = link_answer row; link = judge (λ r. fresh_link 0) (row_short row ∷ []) (fresh_link len) }
+begin_of len row = judge Err (row_short row ∷ []) (Ok (fresh_link len))
 
--- take; refused it hands back "the link as it was"
+-- take
 unfoldable pub take_of : Link → List ℕ → List ℕ → Linked
-take_of k p row = record { answer = link_answer row; link = judge (λ r. k) (row_short row ∷ []) (took_link k p) }
+take_of k p row = judge Err (row_short row ∷ []) (Ok (took_link k p))
+
+-- the link that is handed back, k where the call is refused: begin "hands back a link of zeros (a judging of length 0)", take "the link as it was"
+abbrev pub link_in : Link → Linked → Link
+link_in k l = result_unwrap_or l k
 
 unfoldable pub take_row : Link → List ℕ → List ℕ → List ℕ
 take_row k p row = judge (λ r. row) (row_short row ∷ []) (took_row k p row)
@@ -127,4 +125,4 @@ finish_checks k row =
     row_short row ∷ short k.span ∷ fewer k 32 ∷ (size_checks k.span (sizes_of k.boot) ++ came_checks k (sizes_of k.boot) (row_run row))
 
 unfoldable pub finish_of : Link → List ℕ → Opened
-finish_of k row = judge opened.Refused (finish_checks k row) (opened.Opens (sizes_of k.boot))
+finish_of k row = judge Err (finish_checks k row) (Ok (sizes_of k.boot))

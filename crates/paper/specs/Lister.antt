@@ -1,8 +1,7 @@
 -- 01, "Numbers to hold us to": the lister's text, as bytes.
-use Rattle.std.specs.Prelude.{ℕ, zero, suc, ◌+◌, ◌/◌, ◌%◌, cond, List, [], ◌∷◌, ◌++◌, ltb, leb, length}
+use Rattle.std.specs.Prelude.{ℕ, zero, suc, ◌+◌, ◌/◌, ◌%◌, cond, List, [], ◌∷◌, ◌++◌, ltb, leb, length, Ok, Err}
 use Rattle.paper.specs.declared.sizes.Run.{Run}
-use Rattle.paper.specs.declared.answer.Opened.{Opened}
-use Rattle.paper.specs.declared.answer.Opened.TheVariants.{Opens, Refused}
+use Rattle.paper.specs.Answers.{Opened}
 use Rattle.paper.specs.Refusals.{number_of, value_of}
 use Rattle.paper.specs.Sizes.{capacity_of}
 use Rattle.paper.specs.Index.{run_of, slots_of, open_of}
@@ -41,10 +40,10 @@ slot_word = 32 ∷ 115 ∷ 108 ∷ 111 ∷ 116 ∷ 32 ∷ []
 
 -- "slots 16 used 9 scans 2" and a line for each scan; "A file refused prints one line, as `refused 6 slot 3`"
 abbrev pub text_of : List ℕ → Opened → List ℕ
-text_of f (Opens z) =
+text_of f (Ok z) =
     slots_word ++ (decimal (capacity_of z) ++ (used_word ++ (decimal z.u ++ (scans_word
     ++ (decimal (length (slots_of z (run_of f z))) ++ (10 ∷ lines_text (run_of f z) (slots_of z (run_of f z))))))))
-text_of f (Refused r) = refused_word ++ (decimal (number_of r) ++ (slot_word ++ (decimal (value_of r) ++ (10 ∷ []))))
+text_of f (Err r) = refused_word ++ (decimal (number_of r) ++ (slot_word ++ (decimal (value_of r) ++ (10 ∷ []))))
 
 -- the list of a file, or its refusal
 unfoldable pub list_text : List ℕ → List ℕ

@@ -1,5 +1,6 @@
 -- 01, "What the tablet does with a file": list, entry, show and read, each with the refusals of open before its own.
-use Rattle.std.specs.Prelude.{ℕ, ◌+◌, ◌*◌, ◌≤◌, Bool, false, not, List, [], ◌∷◌, ◌++◌, ltb, leb, length}
+use Rattle.std.specs.Prelude.{ℕ, ◌+◌, ◌*◌, ◌≤◌, Bool, false, not, List, [], ◌∷◌, ◌++◌, ltb, leb, length, Ok, Err}
+use Rattle.std.specs.Result.{result_unwrap_or}
 use Rattle.lent.specs.Lists.{all, threes}
 use Rattle.lent.specs.Checks.{Check, check, judge}
 use Rattle.lent.specs.Write.{write}
@@ -7,13 +8,9 @@ use Rattle.paper.specs.declared.sizes.Sizes.{Sizes}
 use Rattle.paper.specs.declared.sizes.Run.{Run}
 use Rattle.paper.specs.declared.refusal.Refusal.{Refusal}
 use Rattle.paper.specs.declared.refusal.Refusal.TheVariants.{NoSuchSlot, EmptySlot, TooSmall, NotVersionOne}
-use Rattle.paper.specs.declared.answer.Listed.{Listed}
-use Rattle.paper.specs.declared.answer.Listed.TheVariants as listed
-use Rattle.paper.specs.declared.answer.Span.{Span}
-use Rattle.paper.specs.declared.answer.Span.TheVariants.{Part, Refused}
-use Rattle.paper.specs.declared.answer.Ruled.{Ruled}
-use Rattle.paper.specs.declared.answer.Taken.TheVariants as taken
-use Rattle.paper.specs.declared.entry.Found.{Found}
+use Rattle.paper.specs.declared.entry.Entry.{Entry}
+use Rattle.paper.specs.declared.entry.Entry.{Entry}
+use Rattle.paper.specs.Answers.{Listed, Span, Ruled, Found}
 use Rattle.paper.specs.Sizes.{sizes_of, version_of, capacity_of, home_of, start_of}
 use Rattle.paper.specs.Index.{run_of, empty, slots_of, shown_of, open_checks}
 use Rattle.paper.specs.Entry.{fields_of, version_one, no_entry}
@@ -33,7 +30,7 @@ list_checks f out = open_checks f ++ (check (ltb (length out) (3 * length (list_
 
 -- "answers the number of scans"
 unfoldable pub listed_of : List ℕ → List ℕ → Listed
-listed_of f out = judge listed.Refused (list_checks f out) (listed.Scans (length (list_of f)))
+listed_of f out = judge Err (list_checks f out) (Ok (length (list_of f)))
 
 -- what was lent for the list, afterwards: "and no further element"
 unfoldable pub listed_out : List ℕ → List ℕ → List ℕ
@@ -61,15 +58,18 @@ slot_checks f s = open_checks f ++ held_checks f s
 -- "read a slot's index entry"
 unfoldable pub found_of : List ℕ → ℕ → Found
 found_of f s =
-    judge (λ r. record { answer = taken.Refused r; entry = no_entry }) (slot_checks f s)
-    (record { answer = taken.Accepted; entry = fields_of (version_of f) f (home_of (sizes_of f) s) })
+    judge Err (slot_checks f s) (Ok (fields_of (version_of f) f (home_of (sizes_of f) s)))
+
+-- the fields, "all zeros" where it is refused
+abbrev pub fields_in : Found → Entry
+fields_in x = result_unwrap_or x no_entry
 
 -- "show a slot's records (the part of the lent file from first to last)"
 abbrev pub records_span : Sizes → Run → Span
-records_span z r = Part (start_of z r.first) (r.last * z.l)
+records_span z r = Ok (start_of z r.first, r.last * z.l)
 
 unfoldable pub show_of : List ℕ → ℕ → Span
-show_of f s = judge Refused (slot_checks f s) (records_span (sizes_of f) (run_of f (sizes_of f) s))
+show_of f s = judge Err (slot_checks f s) (records_span (sizes_of f) (run_of f (sizes_of f) s))
 
 -- "18, scan not version 1, stands between 10 and 11"
 abbrev pub other_scan : List ℕ → ℕ → Check Refusal
@@ -80,11 +80,11 @@ read_checks f s = slot_checks f s ++ (other_scan f s ∷ [])
 
 -- "A read answers the first HEADLEN + DATALEN bytes of the entry's records"
 abbrev pub read_in : ℕ → Ruled → Span
-read_in from ruled = of_ruled (λ head rest. Part from (from + (head + rest))) ruled
+read_in from ruled = of_ruled (λ head rest. Ok (from, from + (head + rest))) ruled
 
 unfoldable pub read_of : List ℕ → ℕ → Span
 read_of f s =
-    judge Refused (read_checks f s)
+    judge Err (read_checks f s)
     (read_in (start_of (sizes_of f) (run_of f (sizes_of f) s).first) (ruled_of (shown_of f (sizes_of f) s) false))
 
 -- ---- what the tests say, in plain facts

@@ -1,12 +1,12 @@
 -- 01, "Numbers to hold us to": the lines marked P, and those of 02.
-use Rattle.std.specs.Prelude.{ℕ, ◌≤◌, ◌≡◌, List, ◌∷◌, length, replicate}
+use Rattle.std.specs.Prelude.{ℕ, ◌≤◌, ◌≡◌, List, ◌∷◌, length, replicate, Some, None}
 use Rattle.lent.specs.Number.{be16}
-use Rattle.whole.specs.declared.Whole.TheVariants.{Is, Not}
 use Rattle.whole.specs.Length.{length_of}
 use Rattle.paper.specs.Refusals.{opened_says, taken_says}
 use Rattle.paper.specs.Sizes.{sizes_of, version_of, capacity_of, record_of, place_of}
 use Rattle.paper.specs.Index.{open_of}
 use Rattle.paper.specs.Store.{blank_sizes, records_for, save_of}
+use Rattle.paper.specs.Answers.{taken_in}
 
 -- the number that judging a file answers, 0 where it opens
 abbrev pub answered : List ℕ → ℕ
@@ -14,7 +14,7 @@ answered f = (opened_says (open_of f)).number
 
 -- the number that a save answers, 0 where it is begun
 abbrev pub saving : List ℕ → ℕ → List ℕ → List ℕ → ℕ
-saving f slot scan about = (taken_says (save_of f slot scan about).answer).number
+saving f slot scan about = (taken_says (taken_in (save_of f slot scan about))).number
 
 -- a file of either form with these sizes in its bootstrap
 pub record Stated (f : List ℕ) (n l m : ℕ) : Type 0 where
@@ -51,8 +51,8 @@ pub record Numbers : Type 0 where
   pub record_9 : (n : ℕ) → record_of (blank_sizes n 512 64) 9 ≡ 3
   pub place_9 : (n : ℕ) → place_of (blank_sizes n 512 64) 9 ≡ 0
   -- "double 4070000000000000 (hex)"; "8000000000000000 (hex)"
-  pub double_256 : length_of 4643211215818981376 ≡ Is 256
-  pub minus_zero : length_of 9223372036854775808 ≡ Not
+  pub double_256 : length_of 4643211215818981376 ≡ Some 256
+  pub minus_zero : length_of 9223372036854775808 ≡ None
   -- "L 512: 1,024 bytes"; "1,028 bytes"
   pub two_records : (n m : ℕ) → records_for (blank_sizes n 512 m) 1024 ≡ 2
   pub three_records : (n m : ℕ) → records_for (blank_sizes n 512 m) 1028 ≡ 3

@@ -1,20 +1,10 @@
 -- 01, "Refusal numbers": the paper's number and values of every answer.
-use Rattle.std.specs.Prelude.{ℕ, cond, List, [], ◌∷◌, Float}
+use Rattle.std.specs.Prelude.{ℕ, cond, List, [], ◌∷◌, Float, Ok, Err}
 use Rattle.paper.specs.declared.refusal.Refusal.{Refusal}
 use Rattle.paper.specs.declared.refusal.Refusal.TheVariants.{TooShort, OldForm, UnknownForm, OutOfRange, PastEnd, BadEntry, AboveUse, SharedRecord, NoSuchSlot, EmptySlot, BadScan, NoEmptySlot, NoRoom, Disagrees, Differs, BadBlank, TooSmall, NotVersionOne, NotConvertible, NotAllCame}
-use Rattle.paper.specs.declared.answer.Opened.{Opened}
-use Rattle.paper.specs.declared.answer.Opened.TheVariants as opened
-use Rattle.paper.specs.declared.answer.Listed.{Listed}
-use Rattle.paper.specs.declared.answer.Listed.TheVariants as listed
-use Rattle.paper.specs.declared.answer.Span.{Span}
-use Rattle.paper.specs.declared.answer.Span.TheVariants as span
-use Rattle.paper.specs.declared.answer.Taken.{Taken}
-use Rattle.paper.specs.declared.answer.Taken.TheVariants as taken
-use Rattle.paper.specs.declared.answer.Asked.{Asked}
-use Rattle.paper.specs.declared.answer.Asked.TheVariants as asked
+use Rattle.paper.specs.Answers.{Opened, Listed, Span, Taken, Asked, StepAnswer}
 use Rattle.paper.specs.declared.entry.Kind.{Kind}
 use Rattle.paper.specs.declared.entry.Kind.TheVariants.{Spectral, Continuum, Other}
-use Rattle.paper.specs.declared.job.Step.{Step}
 use Rattle.paper.specs.declared.job.Step.TheVariants as step
 
 -- "Every refusal returns its number": the table's first column
@@ -79,32 +69,32 @@ abbrev pub refuses : Refusal → Says
 refuses r = record { number = number_of r; values = value_of r ∷ [] }
 
 abbrev pub opened_says : Opened → Says
-opened_says (opened.Opens z) = accepts (z.n ∷ z.d ∷ z.l ∷ z.m ∷ z.u ∷ z.counter ∷ z.kind ∷ z.version ∷ [])
-opened_says (opened.Refused r) = refuses r
+opened_says (Ok z) = accepts (z.n ∷ z.d ∷ z.l ∷ z.m ∷ z.u ∷ z.counter ∷ z.kind ∷ z.version ∷ [])
+opened_says (Err r) = refuses r
 
 abbrev pub listed_says : Listed → Says
-listed_says (listed.Scans n) = accepts (n ∷ [])
-listed_says (listed.Refused r) = refuses r
+listed_says (Ok n) = accepts (n ∷ [])
+listed_says (Err r) = refuses r
 
 abbrev pub span_says : Span → Says
-span_says (span.Part from to) = accepts (from ∷ to ∷ [])
-span_says (span.Refused r) = refuses r
+span_says (Ok (from, to)) = accepts (from ∷ to ∷ [])
+span_says (Err r) = refuses r
 
 abbrev pub taken_says : Taken → Says
-taken_says taken.Accepted = accepts []
-taken_says (taken.Refused r) = refuses r
+taken_says (Ok tt) = accepts []
+taken_says (Err r) = refuses r
 
 -- a question says 1 for yes and 0 for no
 abbrev pub asked_says : Asked → Says
-asked_says (asked.Is so) = accepts (cond so 1 0 ∷ [])
-asked_says (asked.Refused r) = refuses r
+asked_says (Ok so) = accepts (cond so 1 0 ∷ [])
+asked_says (Err r) = refuses r
 
 -- a step says what was done (0 wrote a record, 1 Saved, 2 Cleared), the record and the count so far
-abbrev pub step_says : Step → Says
-step_says (step.Wrote r count) = accepts (0 ∷ r ∷ count ∷ [])
-step_says (step.Saved r count) = accepts (1 ∷ r ∷ count ∷ [])
-step_says (step.Cleared r count) = accepts (2 ∷ r ∷ count ∷ [])
-step_says (step.Refused r) = refuses r
+abbrev pub step_says : StepAnswer → Says
+step_says (Ok (step.Wrote r count)) = accepts (0 ∷ r ∷ count ∷ [])
+step_says (Ok (step.Saved r count)) = accepts (1 ∷ r ∷ count ∷ [])
+step_says (Ok (step.Cleared r count)) = accepts (2 ∷ r ∷ count ∷ [])
+step_says (Err r) = refuses r
 
 -- an entry's kind says which it is (0 other, 1 continuum, 2 spectral line), its type code, and the two values
 pub record KindSays : Type 0 where

@@ -1,16 +1,12 @@
 -- 01, "The scan": its preamble, its rules, its classes and its data, over a run of bytes.
-use Rattle.std.specs.Prelude.{ℕ, zero, suc, ◌+◌, ◌-◌, ◌*◌, ◌%◌, ◌≤◌, ◌<◌, ◌≡◌, Bool, true, false, not, cond, List, [], ◌∷◌, leb, eqb, get_or, length, ℤ, pos}
+use Rattle.std.specs.Prelude.{ℕ, zero, suc, ◌+◌, ◌-◌, ◌*◌, ◌%◌, ◌≤◌, ◌<◌, ◌≡◌, Bool, true, false, not, cond, List, [], ◌∷◌, leb, eqb, get_or, length, ℤ, pos, Ok, Err, Some}
 use Rattle.std.specs.Int.Signed.{lt_z}
 use Rattle.lent.specs.Number.{be16, be64, int16}
 use Rattle.lent.specs.Lists.{table, every, all}
 use Rattle.lent.specs.Checks.{Check, check, judge}
 use Rattle.lent.specs.Part.{part, place_in}
-use Rattle.whole.specs.declared.Whole.TheVariants.{Is}
 use Rattle.whole.specs.Length.{length_of, size_of, is_whole}
-use Rattle.paper.specs.declared.answer.Ruled.{Ruled}
-use Rattle.paper.specs.declared.answer.Ruled.TheVariants.{Keeps, Breaks}
-use Rattle.paper.specs.declared.answer.Span.{Span}
-use Rattle.paper.specs.declared.answer.Span.TheVariants.{Part, Refused}
+use Rattle.paper.specs.Answers.{Ruled, Span}
 use Rattle.paper.specs.declared.refusal.Refusal.TheVariants.{BadScan}
 use Rattle.paper.specs.Entry.{natural_of}
 
@@ -99,7 +95,7 @@ rule_checks s saving =
 
 -- "the number of the first one broken is the reason in refusal 11"
 unfoldable pub ruled_of : List ℕ → Bool → Ruled
-ruled_of s saving = judge Breaks (rule_checks s saving) (Keeps (headlen s) (datalen s))
+ruled_of s saving = judge Err (rule_checks s saving) (Ok (headlen s, datalen s))
 
 -- the byte at which the class after k others starts: "a Real*8 word number counted from 1"
 unfoldable pub class_at : List ℤ → ℕ → ℕ
@@ -112,12 +108,12 @@ class_end starts n head number = cond (eqb number n) head (class_at starts numbe
 -- "then an empty part for a class number outside 1 to the count"
 unfoldable pub class_in : List ℤ → ℕ → ℕ → ℕ → Span
 class_in starts n head number =
-    cond (all (leb 1 number ∷ leb number n ∷ [])) (Part (class_at starts (number - 1)) (class_end starts n head number)) (Part 0 0)
+    cond (all (leb 1 number ∷ leb number n ∷ [])) (Ok (class_at starts (number - 1), class_end starts n head number)) (Ok (0, 0))
 
 -- what is asked of a scan that keeps the rules; 11 with the reason where one is broken
 abbrev pub of_ruled : (ℕ → ℕ → Span) → Ruled → Span
-of_ruled k (Keeps head rest) = k head rest
-of_ruled k (Breaks reason) = Refused (BadScan reason)
+of_ruled k (Ok (head, rest)) = k head rest
+of_ruled k (Err reason) = Err (BadScan reason)
 
 -- "Asked of a run of bytes, a class gives 11 where rules 1 to 5 are broken"
 unfoldable pub class_of : List ℕ → ℕ → Span
@@ -125,17 +121,17 @@ class_of s number = of_ruled (λ head rest. class_in (starts_of s) (classes_of s
 
 -- "the data follow at once"
 unfoldable pub data_of : List ℕ → Span
-data_of s = of_ruled (λ head rest. Part head (head + rest)) (ruled_of s false)
+data_of s = of_ruled (λ head rest. Ok (head, head + rest)) (ruled_of s false)
 
 -- the part of what was lent that a span names; nothing where the call is refused
 abbrev pub part_of : List ℕ → Span → List ℕ
-part_of s (Part from to) = part from to s
-part_of s (Refused r) = []
+part_of s (Ok (from, to)) = part from to s
+part_of s (Err r) = []
 
 -- at which byte of what was lent that part begins; at 0 where the call is refused
 abbrev pub span_place : List ℕ → Span → ℕ
-span_place s (Part from to) = place_in from to s
-span_place s (Refused r) = 0
+span_place s (Ok (from, to)) = place_in from to s
+span_place s (Err r) = 0
 
 -- ---- the rules in plain facts
 
@@ -158,12 +154,12 @@ Rule3 starts n = (word_of starts 0 ≡ 5) × (21 ≤ word_of starts 1) × ((k : 
 -- 4. "HEADLEN is a whole number, a multiple of 8, at least 8 times the last class's start, at most S and at most 65,536"
 abbrev pub Rule4 : List ℕ → ℕ → Type 0
 Rule4 s last =
-    (length_of (be64 s 32) ≡ Is (headlen s)) × (headlen s % 8 ≡ 0) × (8 * last ≤ headlen s) × (headlen s ≤ length s) × (headlen s ≤ 65536)
+    (length_of (be64 s 32) ≡ Some (headlen s)) × (headlen s % 8 ≡ 0) × (8 * last ≤ headlen s) × (headlen s ≤ length s) × (headlen s ≤ 65536)
 
 -- 5. "DATALEN is a whole number, a multiple of 4, at most 65,536, and HEADLEN + DATALEN is at most S"
 abbrev pub Rule5 : List ℕ → Type 0
 Rule5 s =
-    (length_of (be64 s 40) ≡ Is (datalen s)) × (datalen s % 4 ≡ 0) × (datalen s ≤ 65536) × (headlen s + datalen s ≤ length s)
+    (length_of (be64 s 40) ≡ Some (datalen s)) × (datalen s % 4 ≡ 0) × (datalen s ≤ 65536) × (headlen s + datalen s ≤ length s)
 
 -- 6. "When saving, HEADLEN + DATALEN equals S"
 abbrev pub Rule6 : List ℕ → Bool → Type 0

@@ -1,5 +1,5 @@
 -- 01, "A save, record by record": one step of a job, for any file, scan and job: the file, the job and the answer after it.
-use Rattle.std.specs.Prelude.{ℕ, ◌+◌, ◌*◌, ◌≤◌, ◌<◌, ◌≡◌, Bool, true, false, cond, List, [], ◌∷◌, ltb, leb, eqb, length, take, get_or}
+use Rattle.std.specs.Prelude.{ℕ, ◌+◌, ◌*◌, ◌≤◌, ◌<◌, ◌≡◌, Bool, true, false, cond, List, [], ◌∷◌, ltb, leb, eqb, length, take, get_or, Ok, Err}
 use Rattle.lent.specs.Lists.{all}
 use Rattle.lent.specs.Checks.{Fired, clear, fires, fired}
 use Rattle.lent.specs.Part.{part}
@@ -8,11 +8,9 @@ use Rattle.lent.specs.Write.{zeros}
 use Rattle.paper.specs.declared.sizes.Sizes.{Sizes}
 use Rattle.paper.specs.declared.refusal.Refusal.{Refusal}
 use Rattle.paper.specs.declared.refusal.Refusal.TheVariants.{Disagrees, Differs}
-use Rattle.paper.specs.declared.answer.Opened.{Opened}
-use Rattle.paper.specs.declared.answer.Opened.TheVariants as opened
+use Rattle.paper.specs.Answers.{Opened, StepAnswer}
 use Rattle.paper.specs.declared.job.Job.{Job}
-use Rattle.paper.specs.declared.job.Step.{Step}
-use Rattle.paper.specs.declared.job.Step.TheVariants.{Wrote, Saved, Cleared, Refused}
+use Rattle.paper.specs.declared.job.Step.TheVariants.{Wrote, Saved, Cleared}
 use Rattle.paper.specs.declared.job.Stepped.{Stepped}
 use Rattle.paper.specs.Sizes.{sizes_of, capacity_of, start_of, room_of, change_boot}
 use Rattle.paper.specs.Index.{open_of, entry_at, Booted}
@@ -99,28 +97,28 @@ unfoldable pub stands : List ℕ → List ℕ → Job → Sizes → Bool
 stands f scan j z = all (stand_tests f scan j z)
 
 -- "and answers Saved": record 0 and the count
-abbrev pub confirmed : Job → Step
-confirmed j = cond j.saves (Saved 0 j.written) (Cleared 0 j.written)
+abbrev pub confirmed : Job → StepAnswer
+confirmed j = cond j.saves (Ok (Saved 0 j.written)) (Ok (Cleared 0 j.written))
 
 -- neither a write nor a refusal
-abbrev pub is_confirmed : Step → Bool
-is_confirmed (Wrote r count) = false
-is_confirmed (Saved r count) = true
-is_confirmed (Cleared r count) = true
-is_confirmed (Refused r) = false
+abbrev pub is_confirmed : StepAnswer → Bool
+is_confirmed (Ok (Wrote r count)) = false
+is_confirmed (Ok (Saved r count)) = true
+is_confirmed (Ok (Cleared r count)) = true
+is_confirmed (Err r) = false
 
 -- "The confirming step then gives 1 to 8, then 15"
-abbrev pub confirm_of : List ℕ → List ℕ → Job → Opened → Step
-confirm_of f scan j (opened.Refused r) = Refused r
-confirm_of f scan j (opened.Opens z) = cond (stands f scan j z) (confirmed j) (Refused Differs)
+abbrev pub confirm_of : List ℕ → List ℕ → Job → Opened → StepAnswer
+confirm_of f scan j (Err r) = Err r
+confirm_of f scan j (Ok z) = cond (stands f scan j z) (confirmed j) (Err Differs)
 
 -- "The answer to a step says which record it wrote and how many records it has written so far"
-abbrev pub wrote_of : List ℕ → Sizes → List ℕ → Job → Step
-wrote_of f z scan j = Wrote (write_at f z scan j).record_no (j.written + 1)
+abbrev pub wrote_of : List ℕ → Sizes → List ℕ → Job → StepAnswer
+wrote_of f z scan j = Ok (Wrote (write_at f z scan j).record_no (j.written + 1))
 
-unfoldable pub step_answer : List ℕ → List ℕ → Job → Step
+unfoldable pub step_answer : List ℕ → List ℕ → Job → StepAnswer
 step_answer f scan j =
-    cond (agrees f scan j) (cond (has_left (sizes_of f) j) (wrote_of f (sizes_of f) scan j) (confirm_of f scan j (open_of f))) (Refused Disagrees)
+    cond (agrees f scan j) (cond (has_left (sizes_of f) j) (wrote_of f (sizes_of f) scan j) (confirm_of f scan j (open_of f))) (Err Disagrees)
 
 unfoldable pub stepped_of : List ℕ → List ℕ → Job → Stepped
 stepped_of f scan j = record { answer = step_answer f scan j; job = step_job f scan j }

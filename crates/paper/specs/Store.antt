@@ -1,5 +1,6 @@
 -- 01, "A save, record by record": blank; what save, keep and clear answer, the job that they hand back, and the writes that the job stands for.
-use Rattle.std.specs.Prelude.{ℕ, zero, suc, ◌+◌, ◌-◌, ◌*◌, ◌/◌, ◌%◌, ◌≤◌, max, Bool, true, false, not, cond, List, [], ◌∷◌, ◌++◌, ltb, leb, eqb, length, take, drop, replicate}
+use Rattle.std.specs.Prelude.{ℕ, zero, suc, ◌+◌, ◌-◌, ◌*◌, ◌/◌, ◌%◌, ◌≤◌, max, Bool, true, false, not, cond, List, [], ◌∷◌, ◌++◌, ltb, leb, eqb, length, take, drop, replicate, Ok, Err}
+use Rattle.std.specs.Result.{result_unwrap_or}
 use Rattle.lent.specs.Lists.{all}
 use Rattle.lent.specs.Least.{least}
 use Rattle.lent.specs.Greatest.{greatest}
@@ -9,12 +10,8 @@ use Rattle.paper.specs.declared.sizes.Sizes.{Sizes}
 use Rattle.paper.specs.declared.sizes.Run.{Run}
 use Rattle.paper.specs.declared.refusal.Refusal.{Refusal}
 use Rattle.paper.specs.declared.refusal.Refusal.TheVariants.{NoEmptySlot, BadScan, NoRoom, BadBlank}
-use Rattle.paper.specs.declared.answer.Ruled.{Ruled}
-use Rattle.paper.specs.declared.answer.Ruled.TheVariants.{Keeps, Breaks}
-use Rattle.paper.specs.declared.answer.Taken.{Taken}
-use Rattle.paper.specs.declared.answer.Taken.TheVariants.{Accepted, Refused}
+use Rattle.paper.specs.Answers.{Ruled, Taken, Begun}
 use Rattle.paper.specs.declared.job.Job.{Job}
-use Rattle.paper.specs.declared.job.Begun.{Begun}
 use Rattle.paper.specs.Sizes.{sizes_of, boot_bytes, renewed, capacity_of, record_of, start_of, home_of, room_of, shaped, Shaped}
 use Rattle.paper.specs.Index.{run_of, empty, sharer, change_checks}
 use Rattle.paper.specs.Entry.{entry_bytes}
@@ -35,7 +32,7 @@ abbrev pub blank_checks : List ℕ → Sizes → List (Check Refusal)
 blank_checks f z = check (not (all (blank_tests (length f) z))) BadBlank ∷ []
 
 unfoldable pub blank_of : List ℕ → ℕ → ℕ → ℕ → Taken
-blank_of f n l m = judge Refused (blank_checks f (blank_sizes n l m)) Accepted
+blank_of f n l m = judge Err (blank_checks f (blank_sizes n l m)) (Ok tt)
 
 -- "Blank writes N records, .. zeros after word 8, and touches nothing beyond"
 unfoldable pub blank_file : List ℕ → ℕ → ℕ → ℕ → List ℕ
@@ -96,11 +93,9 @@ no_job =
       about = replicate 54 0;
     }
 
-abbrev pub refused : Refusal → Begun
-refused r = record { answer = Refused r; job = no_job }
-
-abbrev pub accepted : Job → Begun
-accepted j = record { answer = Accepted; job = j }
+-- the job that is handed back: "a refused save, keep or clear hands back a job of zeros"
+abbrev pub job_in : Begun → Job
+job_in b = result_unwrap_or b no_job
 
 -- the place for a scan of `size` bytes in a file
 abbrev pub place_for : List ℕ → ℕ → ℕ
@@ -149,8 +144,8 @@ clear_job f slot =
 
 -- the number of the rule that a scan to be saved breaks, or 0
 abbrev pub reason_of : Ruled → ℕ
-reason_of (Keeps head rest) = 0
-reason_of (Breaks reason) = reason
+reason_of (Ok (head, rest)) = 0
+reason_of (Err reason) = reason
 
 -- 11, then 13
 abbrev pub scan_checks : List ℕ → List ℕ → List (Check Refusal)
@@ -162,17 +157,17 @@ scan_checks f scan =
 -- "1 to 8 as numbered, then 9 or 12, 10, 11, 13"
 unfoldable pub save_of : List ℕ → ℕ → List ℕ → List ℕ → Begun
 save_of f slot scan about =
-    judge refused (change_checks f ++ (no_slot (sizes_of f) slot ∷ scan_checks f scan)) (accepted (save_job f slot scan about))
+    judge Err (change_checks f ++ (no_slot (sizes_of f) slot ∷ scan_checks f scan)) (Ok (save_job f slot scan about))
 
 abbrev pub keep_slot : List ℕ → ℕ
 keep_slot f = empty_slot (sizes_of f) (run_of f (sizes_of f))
 
 unfoldable pub keep_of : List ℕ → List ℕ → List ℕ → Begun
 keep_of f scan about =
-    judge refused (change_checks f ++ (check (eqb (keep_slot f) 0) NoEmptySlot ∷ scan_checks f scan)) (accepted (save_job f (keep_slot f) scan about))
+    judge Err (change_checks f ++ (check (eqb (keep_slot f) 0) NoEmptySlot ∷ scan_checks f scan)) (Ok (save_job f (keep_slot f) scan about))
 
 unfoldable pub clear_of : List ℕ → ℕ → Begun
-clear_of f slot = judge refused (change_checks f ++ held_checks f slot) (accepted (clear_job f slot))
+clear_of f slot = judge Err (change_checks f ++ held_checks f slot) (Ok (clear_job f slot))
 
 -- ---- the writes of a job
 

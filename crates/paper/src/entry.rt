@@ -1,5 +1,4 @@
 //! An index entry's fields.
-use super::answer::Taken;
 
 // What the mode makes of bytes 36 to 47: the type code, and the two values with their names.
 #[derive(Clone, Copy)]
@@ -31,11 +30,4 @@ pub struct Entry {
     // Of the old form alone; 0 in the current one.
     pub magic: i16,
     pub kind: Kind,
-}
-
-// The entry stands beside the answer, since an enum holds no array; it is all zeros where the call is refused.
-#[derive(Clone, Copy)]
-pub struct Found {
-    pub answer: Taken,
-    pub entry: Entry,
 }

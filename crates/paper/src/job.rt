@@ -1,5 +1,4 @@
 //! A job: what an accepted save, keep or clear hands back, to be stepped.
-use super::answer::Taken;
 use super::refusal::Refusal;
 
 #[derive(Clone, Copy)]
@@ -24,11 +23,20 @@ pub struct Job {
     pub about: [u8; 54],
 }
 
-// A refused beginning hands back a job of zeros.
-#[derive(Clone, Copy)]
-pub struct Begun {
-    pub answer: Taken,
-    pub job: Job,
+impl Job {
+    pub const ZEROS: Job = Job {
+        saves: false,
+        lowers: false,
+        slot: 0,
+        size: 0,
+        span: 0,
+        first: 0,
+        written: 0,
+        old: 0,
+        many: 0,
+        boot: [0u8; 32],
+        about: [0u8; 54],
+    };
 }
 
 // The record written (0 when confirming), and the count of records written so far.
@@ -37,12 +45,11 @@ pub enum Step {
     Wrote(usize, usize),
     Saved(usize, usize),
     Cleared(usize, usize),
-    Refused(Refusal),
 }
 
 // A refused step hands back the job as it was.
 #[derive(Clone, Copy)]
 pub struct Stepped {
-    pub answer: Step,
+    pub answer: Result<Step, Refusal>,
     pub job: Job,
 }

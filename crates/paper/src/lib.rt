@@ -1,7 +1,6 @@
 //! What document 01 says: the types, and the few functions that it asks of them. The definitions stand in specs/, a module a section.
 #![tactic(auto)]
 
-pub mod answer;
 pub mod entry;
 pub mod job;
 pub mod link;

@@ -1,5 +1,4 @@
 //! A link: what is known of a file whose bytes come in pieces.
-use super::answer::Taken;
 
 #[derive(Clone, Copy)]
 pub struct Link {
@@ -13,9 +12,11 @@ pub struct Link {
     pub boot: [u8; 32],
 }
 
-// A refused beginning hands back a link of zeros, a refused take the link as it was.
-#[derive(Clone, Copy)]
-pub struct Linked {
-    pub answer: Taken,
-    pub link: Link,
+impl Link {
+    pub const ZEROS: Link = Link {
+        span: 0,
+        came: 0,
+        ends: 0,
+        boot: [0u8; 32],
+    };
 }

@@ -1,4 +1,5 @@
 -- The paper's run, by computation.
+use Rattle.std.specs.Prelude.{Ok}
 use Prim.Native.Nat.{ℕ, ◌+◌}
 use mathlib.Core.Path.{◌≡◌, refl, sym, ◌∙◌, subst}
 use mathlib.Core.Bool.{true, false}
@@ -13,8 +14,6 @@ use Rattle.lent.specs.Write.{write, zeros, pad}
 use Rattle.lent.specs.Same.{same}
 use Rattle.whole.specs.Number.{exactly, whole_float, whole_of}
 use Rattle.whole.specs.Length.{length_of, is_whole, size_of}
-use Rattle.paper.specs.declared.answer.Ruled.TheVariants.{Keeps}
-use Rattle.paper.specs.declared.answer.Opened.TheVariants.{Opens}
 use Rattle.paper.specs.Sizes.{word_at, counter_of, type_of, boot_bytes, shaped, in_range}
 use Rattle.paper.specs.Index.{run_of, shown_of, row_run, empty, in_data, bad_at, above_at, shares, sharer, shared_at, open_of, slots_of}
 use Rattle.paper.specs.Entry.{version_one, entry_bytes}
@@ -93,11 +92,11 @@ zeroed_past = record { past_the_data = refl; scan_past = refl; cut_first = refl;
 
 -- the finds' three premises: the file opens, and what is listed and shown is computed; the laws say what that means
 record Listing : Type 0 where
-  opens : open_of file3 ≡ Opens sizes3
+  opens : open_of file3 ≡ Ok sizes3
   free : gaps_zero file3 sizes3 ≡ true
   slots : list_of file3 ≡ 1 ∷ 9 ∷ []
-  first : ruled_of (shown_of file3 sizes3 1) false ≡ Keeps 256 744
-  ninth : ruled_of (shown_of file3 sizes3 9) false ≡ Keeps 256 256
+  first : ruled_of (shown_of file3 sizes3 1) false ≡ Ok (256, 744)
+  ninth : ruled_of (shown_of file3 sizes3 9) false ≡ Ok (256, 256)
   first-many : many_of (run_of file3 sizes3 1) ≡ 2
   ninth-many : many_of (run_of file3 sizes3 9) ≡ 1
 
@@ -120,7 +119,7 @@ obeyed = each-listed (λ (s : ℕ). (n : ℕ) → Rule (shown_of file3 sizes3 s)
 abbrev Filled : ℕ → Type 0
 Filled s = records_for sizes3 (headlen (shown_of file3 sizes3 s) + datalen (shown_of file3 sizes3 s)) ≡ many_of (run_of file3 sizes3 s)
 
-fills : (s head rest many : ℕ) → ruled_of (shown_of file3 sizes3 s) false ≡ Keeps head rest → records_for sizes3 (head + rest) ≡ many
+fills : (s head rest many : ℕ) → ruled_of (shown_of file3 sizes3 s) false ≡ Ok (head, rest) → records_for sizes3 (head + rest) ≡ many
     → many_of (run_of file3 sizes3 s) ≡ many → Filled s
 fills s head rest many e a b =
     let q = keeps-lengths e in

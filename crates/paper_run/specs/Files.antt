@@ -2,16 +2,15 @@
 use Rattle.std.specs.Prelude.{ℕ, zero, suc, List, [], ◌∷◌, replicate}
 use Rattle.lent.specs.Write.{write}
 use Rattle.paper.specs.declared.job.Job.{Job}
-use Rattle.paper.specs.declared.job.Step.{Step}
+use Rattle.paper.specs.Answers.{StepAnswer, Opened}
 use Rattle.paper.specs.declared.link.Link.{Link}
-use Rattle.paper.specs.declared.answer.Opened.{Opened}
-use Rattle.paper.specs.Store.{blank_file, save_of, clear_of}
+use Rattle.paper.specs.Store.{blank_file, save_of, clear_of, job_in}
 use Rattle.paper.specs.Step.{step_answer, step_file, step_job}
-use Rattle.paper.specs.Link.{begin_of, take_of, take_row, finish_of}
+use Rattle.paper.specs.Link.{fresh_link, begin_of, take_of, take_row, finish_of, link_in}
 use Rattle.paper_run.specs.Scans.{scan1, scan2, scan3, scan4}
 
 -- n steps of a job: the answers, and the file and the job after them
-abbrev pub answers : ℕ → List ℕ → List ℕ → Job → List Step
+abbrev pub answers : ℕ → List ℕ → List ℕ → Job → List StepAnswer
 answers zero f scan j = []
 answers (suc n) f scan j = step_answer f scan j ∷ answers n (step_file f scan j) scan (step_job f scan j)
 
@@ -28,18 +27,18 @@ abbrev pub about : List ℕ
 about = replicate 54 9
 
 -- the answers of the n steps of a save, begun on f; and the file after them
-abbrev pub saving : ℕ → List ℕ → ℕ → List ℕ → List Step
-saving n f slot scan = answers n f scan (save_of f slot scan about).job
+abbrev pub saving : ℕ → List ℕ → ℕ → List ℕ → List StepAnswer
+saving n f slot scan = answers n f scan (job_in (save_of f slot scan about))
 
 abbrev pub saved : ℕ → List ℕ → ℕ → List ℕ → List ℕ
-saved n f slot scan = after n f scan (save_of f slot scan about).job
+saved n f slot scan = after n f scan (job_in (save_of f slot scan about))
 
 -- the same of a clear
-abbrev pub clearing : ℕ → List ℕ → ℕ → List Step
-clearing n f slot = answers n f [] (clear_of f slot).job
+abbrev pub clearing : ℕ → List ℕ → ℕ → List StepAnswer
+clearing n f slot = answers n f [] (job_in (clear_of f slot))
 
 abbrev pub cleared : ℕ → List ℕ → ℕ → List ℕ
-cleared n f slot = after n f [] (clear_of f slot).job
+cleared n f slot = after n f [] (job_in (clear_of f slot))
 
 -- 4,096 bytes, of which blank leaves those past record 3
 abbrev pub lent : List ℕ
@@ -76,8 +75,8 @@ broken = write (write file0 16 (0 ∷ 0 ∷ 0 ∷ 3 ∷ [])) 640 (0 ∷ 0 ∷ 0 
 -- what finish says after these pieces, of that link and row
 abbrev pub finished : List (List ℕ) → Link → List ℕ → Opened
 finished [] k row = finish_of k row
-finished (p ∷ ps) k row = finished ps (take_of k p row).link (take_row k p row)
+finished (p ∷ ps) k row = finished ps (link_in k (take_of k p row)) (take_row k p row)
 
 -- and of 4,096 bytes, begun with a row of nines
 abbrev pub over_link : List (List ℕ) → Opened
-over_link ps = finished ps (begin_of 4096 (replicate 8192 9)).link (replicate 8192 9)
+over_link ps = finished ps (link_in (fresh_link 0) (begin_of 4096 (replicate 8192 9))) (replicate 8192 9)

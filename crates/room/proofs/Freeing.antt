@@ -6,9 +6,11 @@ use mathlib.Core.List.{List}
 use native.Mathlib.Decide.{dec_le}
 use native.Mathlib.Omega.{arith}
 use lib.ListN.{length, get_or}
-use Rattle.lent.specs.Least.{None}
+use Rattle.std.specs.Prelude.{Option, Some, None as Nothing}
+use Rattle.lent.specs.Least.{some_number, None}
+use Rattle.lent.proofs.Founds.{found-here, found-end, was-found, was-none}
 use Rattle.lent.proofs.Lists.{not_so}
-use Rattle.lent.proofs.Leasts.{lowest-least, least-none, least-here, least-end, least-same}
+use Rattle.lent.proofs.Leasts.{lowest-least, least-none, least-same}
 use Rattle.marks.specs.Marks.{mark_of, Met, Blocked}
 use Rattle.paper.specs.declared.sizes.Sizes.{Sizes}
 use Rattle.paper.specs.declared.sizes.Run.{Run}
@@ -25,27 +27,27 @@ use Rattle.room.specs.Passing.{Sought, Hints, Missed, Passed, Vacant}
 -- ---- the lowest empty slot: the slots in use are passed one by one, those above are empty
 
 module _ (row : List ℕ) (z : Sizes) (i : ℕ) (h : None (λ s. empty (row_run row s)) i) where
-  pub vacant-here : empty (row_run row (i + 1)) ≡ true → i < z.u → z.u ≤ capacity_of z → Vacant row z (i + 1)
+  pub vacant-here : empty (row_run row (i + 1)) ≡ true → i < z.u → z.u ≤ capacity_of z → Vacant row z (Some (i + 1))
   unfolding empty_slot
   vacant-here t l m =
       record {
         is = λ run e a.
-            sym (least-here {p = λ s. empty (run s)} (record { none = λ s x y. sym (ap empty (e s x (omega arith))) ∙ h.none s x y })
-            (sym (ap empty (e (i + 1) (omega arith) (omega arith))) ∙ t) (omega arith));
+            found-here {p = λ s. empty (run s)} (record { none = λ s x y. sym (ap empty (e s x (omega arith))) ∙ h.none s x y })
+            (sym (ap empty (e (i + 1) (omega arith) (omega arith))) ∙ t) (omega arith);
       }
 
   module _ (d : i ≡ z.u) where
     used-none : (run : ℕ → Run) → ((s : ℕ) → 1 ≤ s → s ≤ z.u → row_run row s ≡ run s) → None (λ s. empty (run s)) z.u
     used-none run e = record { none = λ s x y. sym (ap empty (e s x y)) ∙ h.none s x (omega arith) }
 
-    pub vacant-above : z.u < capacity_of z → Vacant row z (z.u + 1)
+    pub vacant-above : z.u < capacity_of z → Vacant row z (Some (z.u + 1))
     unfolding empty_slot
     vacant-above l =
-        record { is = λ run e a. sym (least-here {p = λ s. empty (run s)} (used-none run e) (facts-empty (run (z.u + 1)) (a (z.u + 1) (omega arith) (omega arith))) l) }
+        record { is = λ run e a. found-here {p = λ s. empty (run s)} (used-none run e) (facts-empty (run (z.u + 1)) (a (z.u + 1) (omega arith) (omega arith))) l }
 
-    pub vacant-none : capacity_of z ≤ z.u → Vacant row z 0
+    pub vacant-none : capacity_of z ≤ z.u → Vacant row z Nothing
     unfolding empty_slot
-    vacant-none l = record { is = λ run e a. sym (least-end {p = λ s. empty (run s)} (used-none run e) l) }
+    vacant-none l = record { is = λ run e a. found-end {p = λ s. empty (run s)} (used-none run e) l }
 
 -- ---- the slots without a record after i and before e
 
@@ -62,8 +64,8 @@ missed_more row x i e h m = record { clear = λ t a b. go t a b (dec_le t x) }
     go t a b (no l) = let q : t - 1 ≡ x = omega arith in rw q m
 
 -- none of the k records after record i is a scan's
-pub missed-all : (run : ℕ → Run) (u i k e : ℕ) → e ≡ i + k + 1 → Missed run u i e → 0 ≡ sharer run (run_from (i + 1) k) u
-missed-all run u i k e q h = sym (none-sharer run (run_from (i + 1) k) u (λ t a b s. omega (arith, h.clear t a b (omega (arith, s.before)), s.after)))
+pub missed-all : (run : ℕ → Run) (u i k e : ℕ) → e ≡ i + k + 1 → Missed run u i e → Nothing ≡ some_number (sharer run (run_from (i + 1) k) u)
+missed-all run u i k e q h = ap some_number (sym (none-sharer run (run_from (i + 1) k) u (λ t a b s. omega (arith, h.clear t a b (omega (arith, s.before)), s.after))))
 
 -- ---- a scan in the way
 
@@ -73,10 +75,11 @@ pub record Touch (run : ℕ → Run) (z : Sizes) (a : Run) (t : ℕ) : Type 0 wh
   pub high : t ≤ z.u
   pub shared : Shares a (run t)
 
-pub touch : (run : ℕ → Run) (z : Sizes) (a : Run) (t : ℕ) → t ≡ sharer run a z.u → (t ≡ 0 → ⊥) → Touch run z a t
+pub touch : (run : ℕ → Run) (z : Sizes) (a : Run) (t : ℕ) (o : Option ℕ) → o ≡ some_number (sharer run a z.u) → o ≡ Some t → Touch run z a t
 unfolding sharer
-touch run z a t e h =
-    let l = lowest-least {p = λ s. shares a (run s)} {n = z.u} {k = t} (sym e) (omega arith) in
+touch run z a t o e h =
+    let f = was-found (sharer run a z.u) t (sym e ∙ h) in
+    let l = lowest-least {p = λ s. shares a (run s)} {n = z.u} {k = t} (sym f.0) f.1 in
     record { low = l.low; high = l.high; shared = share-facts a (run t) l.takes }
 
 pub touch-here : (run : ℕ → Run) (z : Sizes) (x a b : Run) (t : ℕ) (v : Bool) → 1 ≤ t → t ≤ z.u → a ≡ x → b ≡ run t → v ≡ shares a b → v ≡ true → Touch run z x t
@@ -100,19 +103,19 @@ module _ (run : ℕ → Run) (z : Sizes) (k i : ℕ) (some : 1 ≤ k) (p : Passe
       go r a c (no h) q = sharer-none run (run_from r k) z.u q t d.low d.high (let s = d.shared in omega arith)
 
   -- a place that starts later does not lie within the room
-  pub free-end : (len : ℕ) → room_of z len < i + k → 0 ≡ free_place z len run k
+  pub free-end : (len : ℕ) → room_of z len < i + k → Nothing ≡ some_number (free_place z len run k)
   unfolding free_place
-  free-end len h = sym (least-none (record { none = λ r a b. not_so (λ e. let f = free-facts z len run k r e in go r f (dec_le r i)) }))
+  free-end len h = ap some_number (sym (least-none (record { none = λ r a b. not_so (λ e. let f = free-facts z len run k r e in go r f (dec_le r i)) })))
     where
       go : (r : ℕ) → FreeAt z len run k r → Dec (r ≤ i) → ⊥
       go r f (yes q) = p.none r f.past q (none-sharer run (run_from r k) z.u f.alone)
       go r f (no q) = omega (arith, f.within)
 
   -- the place after record i
-  pub free-here : (len : ℕ) → i + k ≤ room_of z len → sharer run (run_from (i + 1) k) z.u ≡ 0 → i + 1 ≡ free_place z len run k
+  pub free-here : (len : ℕ) → i + k ≤ room_of z len → (o : Option ℕ) → o ≡ some_number (sharer run (run_from (i + 1) k) z.u) → o ≡ Nothing → Some (i + 1) ≡ some_number (free_place z len run k)
   unfolding free_place
-  free-here len h e = sym (least-here (record { none = λ r a b. not_so (λ q. let f = free-facts z len run k r q in p.none r f.past b (none-sharer run (run_from r k) z.u f.alone)) })
-      (facts-free z len run k (i + 1) (record { past = omega (arith, p.low); within = omega arith; alone = sharer-none run (run_from (i + 1) k) z.u e })) (omega arith))
+  free-here len h o q e = found-here (record { none = λ r a b. not_so (λ q. let f = free-facts z len run k r q in p.none r f.past b (none-sharer run (run_from r k) z.u f.alone)) })
+      (facts-free z len run k (i + 1) (record { past = omega (arith, p.low); within = omega arith; alone = sharer-none run (run_from (i + 1) k) z.u (was-none _ (sym q ∙ e)) })) (omega arith)
 
 -- ---- the places that a marked record lies in
 
@@ -146,7 +149,7 @@ module _ (run : ℕ → Run) (z : Sizes) (k : ℕ) (ws : List ℕ) (g : Ranged z
 -- ---- a row that holds the runs of a file
 
 module _ (f : List ℕ) (z : Sizes) (row : List ℕ) (h : Runs f z row z.u) where
-  pub empty-row : Sound f z → (r : ℕ) → Vacant row z r → r ≡ empty_slot z (run_of f z)
+  pub empty-row : Sound f z → (r : Option ℕ) → Vacant row z r → r ≡ some_number (empty_slot z (run_of f z))
   empty-row s r v = v.is (run_of f z) h.run s.laid.above
 
   pub free-row : (len k : ℕ) → free_place z len (row_run row) k ≡ free_place z len (run_of f z) k

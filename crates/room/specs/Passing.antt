@@ -1,5 +1,6 @@
 -- What the search for a place is given, what it keeps, and what it finds.
-use Rattle.std.specs.Prelude.{ℕ, ◌+◌, ◌*◌, ◌≤◌, ◌<◌, ◌≡◌, List, length}
+use Rattle.std.specs.Prelude.{ℕ, ◌+◌, ◌*◌, ◌≤◌, ◌<◌, ◌≡◌, List, length, Option}
+use Rattle.lent.specs.Least.{some_number}
 use Rattle.marks.specs.Marks.{mark_of}
 use Rattle.paper.specs.declared.sizes.Sizes.{Sizes}
 use Rattle.paper.specs.declared.sizes.Run.{Run}
@@ -30,7 +31,7 @@ pub record Passed (run : ℕ → Run) (z : Sizes) (k i : ℕ) : Type 0 where
   pub small : i ≤ 1000000
   pub none : (r : ℕ) → z.n < r → r ≤ i → sharer run (run_from r k) z.u ≡ 0 → ⊥
 
--- r is the lowest empty slot, or 0, of each index whose slots in use are those of the row and whose other slots are empty
-pub record Vacant (row : List ℕ) (z : Sizes) (r : ℕ) : Type 0 where
+-- r is the lowest empty slot, or none, of each index whose slots in use are those of the row and whose other slots are empty
+pub record Vacant (row : List ℕ) (z : Sizes) (r : Option ℕ) : Type 0 where
   pub is : (run : ℕ → Run) → ((s : ℕ) → 1 ≤ s → s ≤ z.u → row_run row s ≡ run s)
-      → ((s : ℕ) → z.u < s → s ≤ capacity_of z → (run s).first + (run s).last ≡ 0) → r ≡ empty_slot z run
+      → ((s : ℕ) → z.u < s → s ≤ capacity_of z → (run s).first + (run s).last ≡ 0) → r ≡ some_number (empty_slot z run)

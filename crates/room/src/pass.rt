@@ -26,12 +26,9 @@ fn sweep(row: &[u32], z: Sizes, k: usize) -> usize
     requires { Sought row.now z k }
     ensures { Passed (row_run row.now) z k result }
 {
-    let u = z.u;
     let mut i = z.n;
-    let mut x = 0;
-    while x < u {
+    for x in 0..z.u {
         i = step(row, z, k, i, x);
-        x += 1;
     }
     i
 }

@@ -6,21 +6,21 @@ ghost use Rattle.paper.specs.Refusals.{span_says};
 ghost use Rattle.lent.specs.Part.{bytes_on};
 ghost use Rattle.paper.specs.Scan.{class_of, data_of, part_of, span_place};
 
-use paper::answer::Span;
+use paper::refusal::Refusal;
 
 pub mod preamble;
 pub mod rules;
 pub mod spans;
 
 // Where class `number` lies: 11 where rules 1 to 5 are broken, nothing outside 1 to the count.
-pub fn class(run: &[u8], number: usize) -> Span
+pub fn class(run: &[u8], number: usize) -> Result<(usize, usize), Refusal>
     ensures { span_says result ≡ span_says (class_of run.now number) }
 {
     spans::class_span(run, number)
 }
 
 // Where the data lie.
-pub fn data(run: &[u8]) -> Span
+pub fn data(run: &[u8]) -> Result<(usize, usize), Refusal>
     ensures { span_says result ≡ span_says (data_of run.now) }
 {
     spans::data_span(run)

@@ -1,6 +1,5 @@
 //! The preamble: the number of classes and the fifteen starts, two's complement.
 ghost use Rattle.std.specs.Prelude.{◌≡◌, ◌<◌, ◌≤◌, length};
-ghost use Rattle.std.specs.Int.Signed.{lt_z};
 ghost use Rattle.lent.specs.Number.{Plain};
 ghost use Rattle.paper.specs.Entry.{natural_of};
 ghost use Rattle.paper.specs.Scan.{classes_of, starts_of, word_of, rising};
@@ -11,13 +10,11 @@ use lent::read;
 pub fn natural(x: i16) -> usize
     ensures { Plain (natural_of x) 32768 result }
 {
-    if x < 0 {
-        return 0;
-    }
-    x as usize
+    usize::try_from(x).unwrap_or(0)
 }
 
 // The number of classes.
+#[tactic(auto, unfolding(paper::specs::Scan::classes_of))]
 pub fn classes(s: &[u8]) -> usize
     ensures { Plain (classes_of s.now) 32768 result }
 {
@@ -30,10 +27,8 @@ pub fn starts(s: &[u8]) -> [i16; 15]
     ensures { result ≡ starts_of s.now }
 {
     let mut a = [0i16; 15];
-    let mut k: usize = 0;
-    while k < 15 {
+    for k in 0..15 {
         a[k] = read::load_int16(s, 2 + 2 * k);
-        k += 1;
     }
     a
 }
@@ -46,23 +41,15 @@ pub fn word(starts: [i16; 15], k: usize) -> usize
     natural(starts[k])
 }
 
-fn less(a: i16, b: i16) -> bool
-    ensures { result ≡ lt_z a b }
-{
-    a < b
-}
-
 // Whether each of the first n starts but the first is greater than the one before.
 pub fn each_greater(starts: [i16; 15], n: usize) -> bool
     requires { n ≤ 15 }
     ensures { result ≡ rising starts n }
 {
-    let mut k: usize = 0;
-    while k + 1 < n {
-        if !less(starts[k], starts[k + 1]) {
+    for k in 1..n {
+        if starts[k] <= starts[k - 1] {
             return false;
         }
-        k += 1;
     }
     true
 }

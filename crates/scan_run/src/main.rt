@@ -3,7 +3,6 @@
 // classes 1, 13, 15, 16 and 0 and the data lie, and the sums of the bytes of class 1 and of the data.
 ghost use Rattle.std.specs.Prelude.{◌<◌, ◌≤◌, length, IfOk};
 
-use paper::answer::{Ruled, Span};
 use paper::refusal::Refusal;
 use std::io;
 use std::io::Read;
@@ -15,19 +14,7 @@ const LINE: usize = 107;
 fn digit(b: u8) -> usize
     ensures { result < 16 }
 {
-    if b < 48 {
-        return 0;
-    }
-    if b < 58 {
-        return (b - 48) as usize;
-    }
-    if b < 97 {
-        return 0;
-    }
-    if b < 103 {
-        return (b - 87) as usize;
-    }
-    0
+    (b as char).to_digit(16).unwrap_or(0) as usize
 }
 
 // The number in n columns, of at most five digits.
@@ -44,15 +31,15 @@ fn number_at(line: &[u8], at: usize, n: usize) -> usize
 
 // Bytes that differ from one to the next.
 fn fill(run: &mut [u8; 70016], seed: usize) {
-    for i in 0..70016 {
-        run[i] = ((i * 7 + seed % 256) % 256) as u8;
+    for (i, b) in run.iter_mut().enumerate() {
+        *b = ((i * 7 + seed % 256) % 256) as u8;
     }
 }
 
 // The preamble and the two lengths.
 fn begin(run: &mut [u8; 70016], line: &[u8]) {
-    for i in 0..48 {
-        run[i] = (number_at(line, 10 + 2 * i, 2) % 256) as u8;
+    for (i, b) in run[..48].iter_mut().enumerate() {
+        *b = (number_at(line, 10 + 2 * i, 2) % 256) as u8;
     }
 }
 
@@ -60,13 +47,13 @@ fn number(rt: &impl Print, n: usize) -> io::Result<()> {
     print!(rt; " {n}")
 }
 
-fn verdict(rt: &impl Print, r: Ruled) -> io::Result<()> {
+fn verdict(rt: &impl Print, r: Result<(usize, usize), usize>) -> io::Result<()> {
     match r {
-        Ruled::Keeps(head, rest) => {
+        Ok((head, rest)) => {
             number(rt, head)?;
             number(rt, rest)?;
         }
-        Ruled::Breaks(reason) => {
+        Err(reason) => {
             print!(rt; " broken")?;
             number(rt, reason)?;
         }
@@ -74,13 +61,13 @@ fn verdict(rt: &impl Print, r: Ruled) -> io::Result<()> {
     print!(rt; " |")
 }
 
-fn place(rt: &impl Print, s: Span) -> io::Result<()> {
+fn place(rt: &impl Print, s: Result<(usize, usize), Refusal>) -> io::Result<()> {
     match s {
-        Span::Part(from, to) => {
+        Ok((from, to)) => {
             number(rt, from)?;
             number(rt, to)?;
         }
-        Span::Refused(r) => {
+        Err(r) => {
             print!(rt; " refused")?;
             number(rt, r.number())?;
             number(rt, r.value())?;
@@ -89,16 +76,11 @@ fn place(rt: &impl Print, s: Span) -> io::Result<()> {
     print!(rt; " |")
 }
 
-fn wide(b: u8) -> u64 {
-    b as u64
-}
-
 // The sum of the bytes of a part, which tells one part from another.
 fn sum(rt: &impl Print, s: &[u8]) -> io::Result<()> {
-    let mut total: u64 = 0;
-    for b in s {
-        total = total.wrapping_add(wide(*b));
-    }
+    let total = s
+        .iter()
+        .fold(0u64, |total, b| total.wrapping_add(u64::from(*b)));
     print!(rt; " {total}")
 }
 
@@ -148,12 +130,8 @@ fn read_full(input: &mut impl Read, room: &mut [u8]) -> io::Result<usize>
 fn main(rt: HostRuntime) -> io::Result<()> {
     let mut buf = [0u8; 65536];
     let n = read_full(&mut rt.stdin(), &mut buf)?;
-    for k in 0..600 {
-        let from = k * LINE;
-        let to = from + LINE;
-        if to <= n {
-            expand(&rt, lent::part::part(&buf, from, to))?;
-        }
+    for line in buf[..n].chunks_exact(LINE) {
+        expand(&rt, line)?;
     }
     Ok(())
 }

@@ -1,4 +1,5 @@
 -- Slots end at 4,096 and reasons at 6, so what a refusal says beside its number fits the face.
+use Rattle.std.specs.Prelude.{Ok, Err}
 use Prim.Native.Nat.{ℕ, ◌-◌, ◌*◌, ◌≤◌, ◌<◌}
 use mathlib.Core.Path.{◌≡◌, refl, sym, ◌∙◌, subst}
 use mathlib.Core.Bool.{Bool, true, false, not, cond}
@@ -17,31 +18,20 @@ use Rattle.paper.specs.declared.sizes.Sizes.{Sizes}
 use Rattle.paper.specs.declared.sizes.Run.{Run}
 use Rattle.paper.specs.declared.refusal.Refusal.{Refusal}
 use Rattle.paper.specs.declared.refusal.Refusal.TheVariants.{TooShort, OldForm, UnknownForm, OutOfRange, PastEnd, NoEmptySlot, Disagrees, Differs, TooSmall, NotAllCame}
-use Rattle.paper.specs.declared.answer.Opened.{Opened}
-use Rattle.paper.specs.declared.answer.Opened.TheVariants as opened
-use Rattle.paper.specs.declared.answer.Listed.TheVariants as listed
-use Rattle.paper.specs.declared.answer.Span.{Span}
-use Rattle.paper.specs.declared.answer.Span.TheVariants as span
-use Rattle.paper.specs.declared.answer.Ruled.{Ruled}
-use Rattle.paper.specs.declared.answer.Ruled.TheVariants.{Keeps, Breaks}
-use Rattle.paper.specs.declared.answer.Taken.TheVariants as taken
-use Rattle.paper.specs.declared.answer.Asked.TheVariants as asked
-use Rattle.paper.specs.declared.entry.Found.{Found}
+use Rattle.paper.specs.Answers.{Opened, Span, Ruled, Found, Begun, Linked, StepAnswer, taken_in}
 use Rattle.paper.specs.declared.link.Link.{Link}
 use Rattle.paper.specs.declared.job.Job.{Job}
-use Rattle.paper.specs.declared.job.Begun.{Begun}
-use Rattle.paper.specs.declared.job.Step.{Step}
 use Rattle.paper.specs.declared.job.Step.TheVariants as step
 use Rattle.paper.specs.Refusals.{value_of}
 use Rattle.paper.specs.Sizes.{sizes_of, version_of, start_of, capacity_of, bytes_of, in_range, short, boot_checks, Ranged}
 use Rattle.paper.specs.Index.{run_of, row_run, shown_of, bad_at, above_at, shared_at, index_checks, open_checks, change_checks, boot_of, index_of, open_of}
 use Rattle.paper.specs.Scan.{ruled_of, class_at, class_end, class_in, of_ruled, class_of, data_of, starts_of, classes_of}
 use Rattle.paper.specs.Look.{list_of, list_checks, listed_of, held_checks, slot_checks, other_scan, read_checks, no_slot, found_of, show_of, read_in, read_of}
-use Rattle.paper.specs.Store.{blank_checks, blank_sizes, blank_of, reason_of, scan_checks, refused, save_of, keep_of, keep_slot, clear_of}
+use Rattle.paper.specs.Store.{blank_checks, blank_sizes, blank_of, reason_of, scan_checks, save_of, keep_of, keep_slot, clear_of}
 use Rattle.paper.specs.Gaps.{gaps_of}
 use Rattle.paper.specs.Find.{find_checks, report_of}
 use Rattle.paper.specs.Convert.{too-small, form_checks, convert_checks, convert_of}
-use Rattle.paper.specs.Link.{row_short, link_answer, fewer, came_checks, begin_of, take_of, finish_of}
+use Rattle.paper.specs.Link.{fresh_link, took_link, row_short, fewer, came_checks, begin_of, take_of, finish_of}
 use Rattle.paper.specs.Step.{agrees, has_left, wrote_of, confirmed, confirm_of, stands, step_answer}
 use Rattle.paper.proofs.Opening.{range-facts, boot-sound, boot-fires, open-index, open-refused, open-sound, refused-fires, then-opens, then-refused, change-old, change-look}
 use Rattle.paper.proofs.Reasons.{reason-least}
@@ -66,21 +56,21 @@ index-small z R run = (
 
 -- ---- open's refusals, and those of the calls that begin with them
 
-index-fires : (z : Sizes) (run : ℕ → Run) (r : Refusal) → index_of z run ≡ opened.Refused r → fired (index_checks z run) ≡ fires r
+index-fires : (z : Sizes) (run : ℕ → Run) (r : Refusal) → index_of z run ≡ Err r → fired (index_checks z run) ≡ fires r
 unfolding index_of
 index-fires z run r e = refused-fires (index_checks z run) z r e
 
-same-refusal : (f : List ℕ) (q r : Refusal) → open_of f ≡ opened.Refused q → open_of f ≡ opened.Refused r → q ≡ r
+same-refusal : (f : List ℕ) (q r : Refusal) → open_of f ≡ Err q → open_of f ≡ Err r → q ≡ r
 same-refusal f q r p e = cc
 
-open-small : (f : List ℕ) (r : Refusal) → open_of f ≡ opened.Refused r → value_of r ≤ 4096
+open-small : (f : List ℕ) (r : Refusal) → open_of f ≡ Err r → value_of r ≤ 4096
 open-small f r e = go (boot_of f) refl
   where
     go : (v : Opened) → boot_of f ≡ v → value_of r ≤ 4096
-    go (opened.Opens z) b =
+    go (Ok z) b =
         small-fires (index_checks z (run_of f z)) (index-small z (boot-sound b).ranged (run_of f z)) r
         (index-fires z (run_of f z) r (sym (open-index f b) ∙ e))
-    go (opened.Refused q) b =
+    go (Err q) b =
         subst (λ (x : Refusal). value_of x ≤ 4096) (same-refusal f q r (open-refused f b) e)
         (small-fires (boot_checks f) (omega arith, (omega arith, (omega arith, (omega arith, tt)))) q (boot-fires f b))
 
@@ -88,15 +78,15 @@ pub opened-fits : (f : List ℕ) → OpenedSmall (open_of f)
 opened-fits f = go (open_of f) refl
   where
     go : (v : Opened) → open_of f ≡ v → OpenedSmall v
-    go (opened.Opens z) e = (open-sound e).booted.ranged.shape
-    go (opened.Refused r) e = open-small f r e
+    go (Ok z) e = (open-sound e).booted.ranged.shape
+    go (Err r) e = open-small f r e
 
 then-small : (f : List ℕ) (ds : List (Check Refusal)) → AllSmall ds → (r : Refusal) → fired (open_checks f ++ ds) ≡ fires r → value_of r ≤ 4096
 then-small f ds h r e = go (open_of f) refl
   where
     go : (v : Opened) → open_of f ≡ v → value_of r ≤ 4096
-    go (opened.Opens z) o = small-fires ds h r (sym (then-opens f ds o) ∙ e)
-    go (opened.Refused q) o =
+    go (Ok z) o = small-fires ds h r (sym (then-opens f ds o) ∙ e)
+    go (Err q) o =
         subst (λ (x : Refusal). value_of x ≤ 4096) (fires-same _ q r (then-refused f ds o) e) (open-small f q o)
 
 -- an old file's change is refused with 2, which has no value; any other file is judged as for a look
@@ -126,39 +116,39 @@ reason-small : (s : List ℕ) (saving : Bool) → reason_of (ruled_of s saving) 
 reason-small s saving = subst (λ (n : ℕ). n ≤ 6) (sym (reason-least s saving)) (least-le _ 6)
 
 ruled-small : (k : ℕ → ℕ → Span) → ((a b : ℕ) → SpanSmall (k a b)) → (x : Ruled) → reason_of x ≤ 6 → SpanSmall (of_ruled k x)
-ruled-small k h (Keeps a b) e = h a b
-ruled-small k h (Breaks n) e = omega arith
+ruled-small k h (Ok (a, b)) e = h a b
+ruled-small k h (Err n) e = omega arith
 
 pub list-small : (f out : List ℕ) → ListedSmall (listed_of f out)
 unfolding listed_of
-list-small f out = judged ListedSmall listed.Refused (list_checks f out) _ (then-small f (list_tail f out) (omega arith, tt)) tt
+list-small f out = judged ListedSmall Err (list_checks f out) _ (then-small f (list_tail f out) (omega arith, tt)) tt
 
 pub find-small : (f out : List ℕ) → ListedSmall (report_of f out)
 unfolding report_of
-find-small f out = judged ListedSmall listed.Refused (find_checks f out) _ (small-fires (find_checks f out) (omega arith, (omega arith, (omega arith, (omega arith, (omega arith, tt)))))) tt
+find-small f out = judged ListedSmall Err (find_checks f out) _ (small-fires (find_checks f out) (omega arith, (omega arith, (omega arith, (omega arith, (omega arith, tt)))))) tt
 
 pub gaps-small : (f : List ℕ) → AskedSmall (gaps_of f)
 unfolding gaps_of open_of
-gaps-small f = judged AskedSmall asked.Refused (open_checks f) _ (λ r e. open-small f r (judge-fires opened.Refused (open_checks f) _ r e)) tt
+gaps-small f = judged AskedSmall Err (open_checks f) _ (λ r e. open-small f r (judge-fires Err (open_checks f) _ r e)) tt
 
 pub show-small : (f : List ℕ) (s : ℕ) → SpanSmall (show_of f s)
 unfolding show_of
-show-small f s = judged SpanSmall span.Refused (slot_checks f s) _ (then-small f (held_checks f s) (omega arith, (omega arith, tt))) tt
+show-small f s = judged SpanSmall Err (slot_checks f s) _ (then-small f (held_checks f s) (omega arith, (omega arith, tt))) tt
 
 read-in : (from : ℕ) (x : Ruled) → reason_of x ≤ 6 → SpanSmall (read_in from x)
-read-in from (Keeps a b) e = tt
-read-in from (Breaks n) e = omega arith
+read-in from (Ok (a, b)) e = tt
+read-in from (Err n) e = omega arith
 
 pub read_small : (f : List ℕ) (s : ℕ) → SpanSmall (read_of f s)
 unfolding read_of
 read_small f s =
-    judged SpanSmall span.Refused (read_checks f s) _ (then-small f (held_checks f s ++ (other_scan f s ∷ [])) (omega arith, (omega arith, (omega arith, tt)))) (read-in (start_of (sizes_of f) (run_of f (sizes_of f) s).first) (ruled_of (shown_of f (sizes_of f) s) false) (reason-small (shown_of f (sizes_of f) s) false))
+    judged SpanSmall Err (read_checks f s) _ (then-small f (held_checks f s ++ (other_scan f s ∷ [])) (omega arith, (omega arith, (omega arith, tt)))) (read-in (start_of (sizes_of f) (run_of f (sizes_of f) s).first) (ruled_of (shown_of f (sizes_of f) s) false) (reason-small (shown_of f (sizes_of f) s) false))
 
 in_small : (starts : List ℤ) (n head number : ℕ) → SpanSmall (class_in starts n head number)
 unfolding class_in
 in_small starts n head number = go (all (leb 1 number ∷ leb number n ∷ []))
   where
-    go : (t : Bool) → SpanSmall (cond t (span.Part (class_at starts (number - 1)) (class_end starts n head number)) (span.Part 0 0))
+    go : (t : Bool) → SpanSmall (cond t (Ok (class_at starts (number - 1), class_end starts n head number)) (Ok (0, 0)))
     go true = tt
     go false = tt
 
@@ -170,68 +160,68 @@ pub data-small : (s : List ℕ) → SpanSmall (data_of s)
 unfolding data_of
 data-small s = ruled-small _ (λ a b. tt) (ruled_of s false) (reason-small s false)
 
-pub found-small : (f : List ℕ) (s : ℕ) → TakenSmall (found_of f s).answer
+pub found-small : (f : List ℕ) (s : ℕ) → TakenSmall (taken_in (found_of f s))
 unfolding found_of
-found-small f s = judged (λ (x : Found). TakenSmall x.answer) _ (slot_checks f s) _ (then-small f (held_checks f s) (omega arith, (omega arith, tt))) tt
+found-small f s = judged (λ (x : Found). TakenSmall (taken_in x)) _ (slot_checks f s) _ (then-small f (held_checks f s) (omega arith, (omega arith, tt))) tt
 
 pub blank-small : (f : List ℕ) (n l m : ℕ) → TakenSmall (blank_of f n l m)
 unfolding blank_of
-blank-small f n l m = judged TakenSmall taken.Refused (blank_checks f (blank_sizes n l m)) taken.Accepted (small-fires (blank_checks f (blank_sizes n l m)) (omega arith, tt)) tt
+blank-small f n l m = judged TakenSmall Err (blank_checks f (blank_sizes n l m)) (Ok tt) (small-fires (blank_checks f (blank_sizes n l m)) (omega arith, tt)) tt
 
 scan-small : (f scan : List ℕ) → AllSmall (scan_checks f scan)
 scan-small f scan = (omega (arith, reason-small scan true), (omega arith, tt))
 
-pub save-small : (f : List ℕ) (slot : ℕ) (scan about : List ℕ) → TakenSmall (save_of f slot scan about).answer
+pub save-small : (f : List ℕ) (slot : ℕ) (scan about : List ℕ) → TakenSmall (taken_in (save_of f slot scan about))
 unfolding save_of
-save-small f slot scan about = judged (λ (x : Begun). TakenSmall x.answer) refused (change_checks f ++ (no_slot (sizes_of f) slot ∷ scan_checks f scan)) _ (change-small f (no_slot (sizes_of f) slot ∷ scan_checks f scan) (omega arith, scan-small f scan)) tt
+save-small f slot scan about = judged (λ (x : Begun). TakenSmall (taken_in x)) Err (change_checks f ++ (no_slot (sizes_of f) slot ∷ scan_checks f scan)) _ (change-small f (no_slot (sizes_of f) slot ∷ scan_checks f scan) (omega arith, scan-small f scan)) tt
 
-pub keep-small : (f scan about : List ℕ) → TakenSmall (keep_of f scan about).answer
+pub keep-small : (f scan about : List ℕ) → TakenSmall (taken_in (keep_of f scan about))
 unfolding keep_of
-keep-small f scan about = judged (λ (x : Begun). TakenSmall x.answer) refused (change_checks f ++ (check (eqb (keep_slot f) 0) NoEmptySlot ∷ scan_checks f scan)) _ (change-small f (check (eqb (keep_slot f) 0) NoEmptySlot ∷ scan_checks f scan) (omega arith, scan-small f scan)) tt
+keep-small f scan about = judged (λ (x : Begun). TakenSmall (taken_in x)) Err (change_checks f ++ (check (eqb (keep_slot f) 0) NoEmptySlot ∷ scan_checks f scan)) _ (change-small f (check (eqb (keep_slot f) 0) NoEmptySlot ∷ scan_checks f scan) (omega arith, scan-small f scan)) tt
 
-pub clear-small : (f : List ℕ) (slot : ℕ) → TakenSmall (clear_of f slot).answer
+pub clear-small : (f : List ℕ) (slot : ℕ) → TakenSmall (taken_in (clear_of f slot))
 unfolding clear_of
-clear-small f slot = judged (λ (x : Begun). TakenSmall x.answer) refused (change_checks f ++ held_checks f slot) _ (change-small f (held_checks f slot) (omega arith, (omega arith, tt))) tt
+clear-small f slot = judged (λ (x : Begun). TakenSmall (taken_in x)) Err (change_checks f ++ held_checks f slot) _ (change-small f (held_checks f slot) (omega arith, (omega arith, tt))) tt
 
 pub convert-small : (v : ℕ) (f out : List ℕ) → TakenSmall (convert_of v f out)
 unfolding convert_of
 convert-small v f out =
-    judged TakenSmall taken.Refused (convert_checks v f out) _
+    judged TakenSmall Err (convert_checks v f out) _
     (then-small f (too-small out (sizes_of f) ∷ form_checks v f (sizes_of f)) (omega arith, (omega arith, (omega arith, (omega arith, (omega arith, (omega arith, (omega arith, tt))))))))
     tt
 
-either_way : (P : Step → Type 0) (t : Bool) (a b : Step) → P a → P b → P (cond t a b)
+either_way : (P : StepAnswer → Type 0) (t : Bool) (a b : StepAnswer) → P a → P b → P (cond t a b)
 either_way P true a b x y = x
 either_way P false a b x y = y
 
 confirm-small : (f scan : List ℕ) (j : Job) (v : Opened) → open_of f ≡ v → StepSmall (confirm_of f scan j v)
-confirm-small f scan j (opened.Opens z) e =
-    either_way StepSmall (stands f scan j z) (confirmed j) (step.Refused Differs) (either_way StepSmall j.saves _ _ tt tt) (omega arith)
-confirm-small f scan j (opened.Refused r) e = open-small f r e
+confirm-small f scan j (Ok z) e =
+    either_way StepSmall (stands f scan j z) (confirmed j) (Err Differs) (either_way StepSmall j.saves _ _ tt tt) (omega arith)
+confirm-small f scan j (Err r) e = open-small f r e
 
 pub step_small : (f scan : List ℕ) (j : Job) → StepSmall (step_answer f scan j)
 unfolding step_answer
 step_small f scan j =
-    either_way StepSmall (agrees f scan j) _ (step.Refused Disagrees)
+    either_way StepSmall (agrees f scan j) _ (Err Disagrees)
     (either_way StepSmall (has_left (sizes_of f) j) (wrote_of f (sizes_of f) scan j) (confirm_of f scan j (open_of f)) tt (confirm-small f scan j (open_of f) refl))
     (omega arith)
 
 -- ---- the link
 
-lent-small : (row : List ℕ) → TakenSmall (link_answer row)
-lent-small row = judged TakenSmall taken.Refused (row_short row ∷ []) taken.Accepted (small-fires (row_short row ∷ []) (omega arith, tt)) tt
+lent-small : (row : List ℕ) (k : Link) → TakenSmall (taken_in (judge Err (row_short row ∷ []) (Ok k)))
+lent-small row k = judged (λ (x : Linked). TakenSmall (taken_in x)) Err (row_short row ∷ []) (Ok k) (small-fires (row_short row ∷ []) (omega arith, tt)) tt
 
-pub begin-small : (len : ℕ) (row : List ℕ) → TakenSmall (begin_of len row).answer
+pub begin-small : (len : ℕ) (row : List ℕ) → TakenSmall (taken_in (begin_of len row))
 unfolding begin_of
-begin-small len row = lent-small row
+begin-small len row = lent-small row (fresh_link len)
 
-pub take-small : (k : Link) (p row : List ℕ) → TakenSmall (take_of k p row).answer
+pub take-small : (k : Link) (p row : List ℕ) → TakenSmall (taken_in (take_of k p row))
 unfolding take_of
-take-small k p row = lent-small row
+take-small k p row = lent-small row (took_link k p)
 
 -- sizes outside their ranges open nothing
 stopped : (a b c d : Bool) (cs : List (Check Refusal)) (x : Opened)
-    → OpenedSmall (judge opened.Refused (check a TooSmall ∷ check b TooShort ∷ check c NotAllCame ∷ check d UnknownForm ∷ check true OutOfRange ∷ cs) x)
+    → OpenedSmall (judge Err (check a TooSmall ∷ check b TooShort ∷ check c NotAllCame ∷ check d UnknownForm ∷ check true OutOfRange ∷ cs) x)
 stopped true b c d cs x = omega arith
 stopped false true c d cs x = omega arith
 stopped false false true d cs x = omega arith
@@ -250,10 +240,10 @@ finish-fits k row = go (in_range z) refl
         row_short row ∷ short k.span ∷ fewer k 32 ∷ check (ltb 1 z.version) UnknownForm ∷ check (not t) OutOfRange
         ∷ check (ltb k.span (bytes_of z)) PastEnd ∷ came_checks k z (row_run row)
 
-    go : (t : Bool) → in_range z ≡ t → OpenedSmall (judge opened.Refused (checks t) (opened.Opens z))
+    go : (t : Bool) → in_range z ≡ t → OpenedSmall (judge Err (checks t) (Ok z))
     go true e =
         let R = range-facts z e in
-        judged OpenedSmall opened.Refused (checks true) (opened.Opens z)
+        judged OpenedSmall Err (checks true) (Ok z)
         (small-fires (checks true) (omega arith, (omega arith, (omega arith, (omega arith, (omega arith, (omega arith, (omega arith, index-small z R (row_run row)))))))))
         R.shape
-    go false e = stopped (ltb (length row) 8192) (ltb k.span 512) (ltb k.came 32) (ltb 1 z.version) (check (ltb k.span (bytes_of z)) PastEnd ∷ came_checks k z (row_run row)) (opened.Opens z)
+    go false e = stopped (ltb (length row) 8192) (ltb k.span 512) (ltb k.came 32) (ltb 1 z.version) (check (ltb k.span (bytes_of z)) PastEnd ∷ came_checks k z (row_run row)) (Ok z)

@@ -1,4 +1,5 @@
 -- From what a public call promises, in numbers and values, to its answer on the face.
+use Rattle.std.specs.Prelude.{Err}
 use Prim.Native.Nat.{ℕ, zero, suc, ◌≤◌}
 use mathlib.Core.Path.{◌≡◌, refl, sym, ◌∙◌, ap, subst}
 use mathlib.Core.Bool.{Bool, true, false, cond}
@@ -7,26 +8,22 @@ use native.Mathlib.Omega.{arith}
 use lib.Dec.{eqb}
 use Rattle.lent.proofs.Lists.{all_true}
 use borrow.Author.Tests.{leb-true}
-use Rattle.paper.specs.declared.answer.Opened.{Opened}
-use Rattle.paper.specs.declared.answer.Listed.{Listed}
-use Rattle.paper.specs.declared.answer.Span.{Span}
-use Rattle.paper.specs.declared.answer.Taken.{Taken}
-use Rattle.paper.specs.declared.answer.Asked.{Asked}
-use Rattle.paper.specs.declared.entry.Found.{Found}
+use Rattle.paper.specs.Answers.{Opened, Listed, Span, Taken, Asked, Found, Linked, Begun, StepAnswer, taken_in}
 use Rattle.paper.specs.declared.refusal.Refusal.TheVariants.{Disagrees}
 use Rattle.paper.specs.declared.link.Link.{Link}
-use Rattle.paper.specs.declared.link.Linked.{Linked}
 use Rattle.paper.specs.declared.job.Job.{Job}
-use Rattle.paper.specs.declared.job.Begun.{Begun}
-use Rattle.paper.specs.declared.job.Step.{Step}
 use Rattle.paper.specs.declared.job.Step.TheVariants as step
 use Rattle.paper.specs.declared.job.Stepped.{Stepped}
 use Rattle.paper.specs.Refusals.{opened_says, listed_says, span_says, taken_says, asked_says, step_says}
 use Rattle.paper.specs.Sizes.{sizes_of}
-use Rattle.paper.specs.Link.{take_of, take_row, finish_of}
+use Rattle.paper.specs.Link.{take_of, take_row, finish_of, link_in}
 use Rattle.paper.specs.Step.{agrees, has_left, step_file, step_job, step_answer}
+use Rattle.paper.specs.Entry.{no_entry}
+use Rattle.paper.specs.Look.{fields_in}
+use Rattle.paper.specs.Store.{no_job, job_in}
+use Rattle.paper.proofs.Handed.{handed-only}
 use Rattle.paper.proofs.Answers.{opened-only, listed-only, span-only, taken-only, asked-only, step-only}
-use Rattle.sdd.specs.Face.{opened_c, listed_c, asked_c, span_c, found_c, job_c, job_of, begun_c, linked_c, stepped_c, told_of, beside, flag_tests, flagged, step_c, step_file_c, OpenedSmall, TakenSmall, SpanSmall, ListedSmall, AskedSmall, StepSmall}
+use Rattle.sdd.specs.Face.{opened_c, listed_c, asked_c, span_c, job_c, job_of, stepped_c, told_of, beside, flag_tests, flagged, step_c, step_file_c, OpenedSmall, TakenSmall, SpanSmall, ListedSmall, AskedSmall, StepSmall}
 use Rattle.sdd.specs.declared.face.CJob.{CJob}
 use Rattle.sdd.specs.declared.face.CStepped.{CStepped}
 use Rattle.sdd.specs.declared.jobs.Told.{Told}
@@ -58,29 +55,30 @@ asked-face a b e = ap asked_c (asked-only a b e)
 pub taken-small : (a b : Taken) → taken_says a ≡ taken_says b → TakenSmall b → TakenSmall a
 taken-small a b e h = subst TakenSmall (sym (taken-only a b e)) h
 
-pub found-face : (a b : Found) → taken_says a.answer ≡ taken_says b.answer → a.entry ≡ b.entry → found_c a ≡ found_c b
-found-face a b e h = rw (taken-only a.answer b.answer e, h)
+-- a call that hands something back promises its whole answer
+pub found-is : (a b : Found) → taken_says (taken_in a) ≡ taken_says (taken_in b) → fields_in a ≡ fields_in b → a ≡ b
+found-is a b e h = handed-only no_entry a b (taken-only (taken_in a) (taken_in b) e) h
 
-pub begun-face : (a b : Begun) → taken_says a.answer ≡ taken_says b.answer → a.job ≡ b.job → begun_c a ≡ begun_c b
-begun-face a b e h = rw (taken-only a.answer b.answer e, h)
+pub begun-is : (a b : Begun) → taken_says (taken_in a) ≡ taken_says (taken_in b) → job_in a ≡ job_in b → a ≡ b
+begun-is a b e h = handed-only no_job a b (taken-only (taken_in a) (taken_in b) e) h
 
-pub linked-face : (a b : Linked) → taken_says a.answer ≡ taken_says b.answer → a.link ≡ b.link → linked_c a ≡ linked_c b
-linked-face a b e h = rw (taken-only a.answer b.answer e, h)
+pub linked-is : (k : Link) (a b : Linked) → taken_says (taken_in a) ≡ taken_says (taken_in b) → link_in k a ≡ link_in k b → a ≡ b
+linked-is k a b e h = handed-only k a b (taken-only (taken_in a) (taken_in b) e) h
 
 -- a link that stands for the numbers k
 module _ (j k : Link) where
   pub taken-stood : (p row : List ℕ) (r : Linked) (next : List ℕ) → j ≡ k
-      → (taken_says r.answer ≡ taken_says (take_of j p row).answer) × ((r.link ≡ (take_of j p row).link) × (next ≡ take_row j p row))
-      → (taken_says r.answer ≡ taken_says (take_of k p row).answer) × ((r.link ≡ (take_of k p row).link) × (next ≡ take_row k p row))
+      → (taken_says (taken_in r) ≡ taken_says (taken_in (take_of j p row))) × (link_in j r ≡ link_in j (take_of j p row)) × (next ≡ take_row j p row)
+      → (r ≡ take_of k p row) × (next ≡ take_row k p row)
   taken-stood p row r next e h =
-      subst (λ (x : Link). (taken_says r.answer ≡ taken_says (take_of x p row).answer) × ((r.link ≡ (take_of x p row).link) × (next ≡ take_row x p row))) e h
+      subst (λ (x : Link). (r ≡ take_of x p row) × (next ≡ take_row x p row)) e (linked-is j r (take_of j p row) h.0 h.1, h.2)
 
   pub finish-stood : (row : List ℕ) (r : Opened) → j ≡ k → opened_says r ≡ opened_says (finish_of j row) → opened_says r ≡ opened_says (finish_of k row)
   finish-stood row r e h = subst (λ (x : Link). opened_says r ≡ opened_says (finish_of x row)) e h
 
 -- ---- a step
 
-pub step-small-of : (a b : Step) → step_says a ≡ step_says b → StepSmall b → StepSmall a
+pub step-small-of : (a b : StepAnswer) → step_says a ≡ step_says b → StepSmall b → StepSmall a
 step-small-of a b e h = subst StepSmall (sym (step-only a b e)) h
 
 flag-back : (n : ℕ) → n ≤ 1 → cond (eqb n 1) 1 0 ≡ n
@@ -115,7 +113,7 @@ onward c k = changed c c.saves c.lowers k.written k.boot
 
 module _ (f scan : List ℕ) (c : CJob) (r : CStepped) (t : Told) where
   -- a flag that is neither 0 nor 1
-  pub other-flag : flagged c ≡ false → t ≡ told_of (step.Refused Disagrees) → r ≡ beside t c → (r ≡ step_c f scan c) × (f ≡ step_file_c f scan c)
+  pub other-flag : flagged c ≡ false → t ≡ told_of (Err Disagrees) → r ≡ beside t c → (r ≡ step_c f scan c) × (f ≡ step_file_c f scan c)
   unfolding step_c step_file_c
   other-flag h e q = (rw h (q ∙ ap (λ (x : Told). beside x c) e), rw h refl)
 

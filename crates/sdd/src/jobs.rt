@@ -1,11 +1,12 @@
 //! The calls that change a file, by way of a job: blank, save, keep, clear and step.
 ghost use Rattle.std.specs.Prelude.{◌≡◌, cond};
+ghost use Rattle.paper.specs.Answers.{taken_in};
 ghost use Rattle.paper.specs.Store.{blank_of, blank_file, save_of, keep_of, clear_of};
 ghost use Rattle.sdd.specs.Face.{taken_c, job_c, job_of, begun_c, told_done, told_of, beside, flagged, step_c, step_file_c, TakenSmall, StepSmall};
 
 use super::face::{CBegun, CJob, CStepped, Why};
 use super::whys::{accepted, taken, why};
-use paper::job::{Begun, Job, Step};
+use paper::job::{Job, Step};
 use paper::refusal::Refusal;
 
 #[unsafe(no_mangle)]
@@ -46,6 +47,7 @@ fn numbers(j: Job) -> CJob
 }
 
 // The job that the numbers stand for.
+#[inline(always)]
 fn job(c: CJob) -> Job
     ensures { result ≡ job_of c }
 {
@@ -66,15 +68,20 @@ fn job(c: CJob) -> Job
     }
 }
 
-fn begun(b: Begun) -> CBegun
-    requires { TakenSmall b.answer }
+// A job of zeros stands beside a refusal.
+fn begun(b: Result<Job, Refusal>) -> CBegun
+    requires { TakenSmall (taken_in b) }
     ensures { result ≡ begun_c b }
 {
-    let a = b.answer;
-    let j = b.job;
-    CBegun {
-        why: taken(a),
-        job: numbers(j),
+    match b {
+        Ok(j) => CBegun {
+            why: accepted(),
+            job: numbers(j),
+        },
+        Err(r) => CBegun {
+            why: why(r),
+            job: numbers(Job::ZEROS),
+        },
     }
 }
 
@@ -108,15 +115,16 @@ pub struct Told {
     pub written: u64,
 }
 
-fn answer(a: Step) -> Told
+#[inline(always)]
+fn answer(a: Result<Step, Refusal>) -> Told
     requires { StepSmall a }
     ensures { result ≡ told_of a }
 {
     match a {
-        Step::Wrote(record, count) => done(0, record, count),
-        Step::Saved(record, count) => done(1, record, count),
-        Step::Cleared(record, count) => done(2, record, count),
-        Step::Refused(r) => Told {
+        Ok(Step::Wrote(record, count)) => done(0, record, count),
+        Ok(Step::Saved(record, count)) => done(1, record, count),
+        Ok(Step::Cleared(record, count)) => done(2, record, count),
+        Err(r) => Told {
             why: why(r),
             done: 0,
             wrote: 0,
@@ -125,6 +133,7 @@ fn answer(a: Step) -> Told
     }
 }
 
+#[inline(always)]
 fn done(what: u64, place: usize, count: usize) -> Told
     ensures { result ≡ told_done what place count }
 {
@@ -137,6 +146,7 @@ fn done(what: u64, place: usize, count: usize) -> Told
 }
 
 // The answer beside the job.
+#[inline(always)]
 fn stepped(t: Told, c: CJob) -> CStepped
     ensures { result ≡ beside t c }
 {
@@ -151,6 +161,7 @@ fn stepped(t: Told, c: CJob) -> CStepped
 }
 
 // Each of the two flags is 0 or 1.
+#[inline(always)]
 fn flagged(c: CJob) -> bool
     ensures { result ≡ flagged c }
 {
@@ -170,7 +181,7 @@ pub extern "C" fn sdd_step(file: &mut [u8], scan: &[u8], c: CJob) -> CStepped
     ensures file_after { file.new ≡ step_file_c file.old scan.now c }
 {
     if !flagged(c) {
-        return stepped(answer(Step::Refused(Refusal::Disagrees)), c);
+        return stepped(answer(Err(Refusal::Disagrees)), c);
     }
     let s = store::step(file, scan, job(c));
     let a = s.answer;

@@ -1,4 +1,4 @@
-//! The C face: what a host links. Each call hands on to a proved one and turns its answer into numbers, by a `match` for each enum.
+//! The C face: what a host links. Each call hands on to a proved one and turns its answer into numbers, by a `match` for each kind of answer.
 #![tactic(auto)]
 
 pub mod face;

@@ -1,12 +1,14 @@
 //! The verdict over the slow link: begin, take and finish.
 ghost use Rattle.std.specs.Prelude.{◌≡◌};
-ghost use Rattle.paper.specs.Link.{begin_of, take_of, take_row, finish_of};
+ghost use Rattle.paper.specs.Answers.{taken_in};
+ghost use Rattle.paper.specs.Link.{fresh_link, begin_of, take_of, take_row, finish_of};
 ghost use Rattle.sdd.specs.Face.{opened_c, link_c, link_of, linked_c, TakenSmall};
 
 use super::face::{CLink, CLinked, COpened};
 use super::looks::opened;
-use super::whys::taken;
-use paper::link::{Link, Linked};
+use super::whys::{accepted, why};
+use paper::link::Link;
+use paper::refusal::Refusal;
 
 // The link that the numbers stand for.
 fn stood(c: CLink) -> Link
@@ -34,31 +36,37 @@ fn numbers(k: Link) -> CLink
     }
 }
 
-fn linked(l: Linked) -> CLinked
-    requires { TakenSmall l.answer }
-    ensures { result ≡ linked_c l }
+// Beside a refusal stands the link `before`: of zeros for begin, for take the one that was lent.
+fn linked(before: Link, l: Result<Link, Refusal>) -> CLinked
+    requires { TakenSmall (taken_in l) }
+    ensures { result ≡ linked_c before l }
 {
-    let a = l.answer;
-    let k = l.link;
-    CLinked {
-        why: taken(a),
-        link: numbers(k),
+    match l {
+        Ok(k) => CLinked {
+            why: accepted(),
+            link: numbers(k),
+        },
+        Err(r) => CLinked {
+            why: why(r),
+            link: numbers(before),
+        },
     }
 }
 
 #[unsafe(no_mangle)]
 pub extern "C" fn sdd_link_begin(length: u64, row: &[u32]) -> CLinked
-    ensures { result ≡ linked_c (begin_of length row.now) }
+    ensures { result ≡ linked_c (fresh_link 0) (begin_of length row.now) }
 {
-    linked(link::begin(length as usize, row))
+    linked(Link::ZEROS, link::begin(length as usize, row))
 }
 
 #[unsafe(no_mangle)]
 pub extern "C" fn sdd_link_take(c: CLink, piece: &[u8], row: &mut [u32]) -> CLinked
-    ensures value { result ≡ linked_c (take_of (link_of c) piece.now row.old) }
+    ensures value { result ≡ linked_c (link_of c) (take_of (link_of c) piece.now row.old) }
     ensures row_after { row.new ≡ take_row (link_of c) piece.now row.old }
 {
-    linked(link::take(stood(c), piece, row))
+    let k = stood(c);
+    linked(k, link::take(k, piece, row))
 }
 
 #[unsafe(no_mangle)]

@@ -1,25 +1,29 @@
 //! The calls that look: open, the question of the gaps, list, find, entry, show, read, class and data.
 ghost use Rattle.std.specs.Prelude.{◌≡◌, length};
 ghost use Rattle.paper.specs.Index.{open_of};
+ghost use Rattle.paper.specs.Answers.{taken_in};
+ghost use Rattle.paper.specs.Entry.{no_entry};
 ghost use Rattle.paper.specs.Look.{listed_of, listed_out, found_of, show_of, read_of};
 ghost use Rattle.paper.specs.Gaps.{gaps_of};
 ghost use Rattle.paper.specs.Find.{report_of, report_out};
 ghost use Rattle.paper.specs.Scan.{class_of, data_of};
-ghost use Rattle.sdd.specs.Face.{opened_c, listed_c, asked_c, span_c, found_c, OpenedSmall, SpanSmall, ListedSmall, AskedSmall};
+ghost use Rattle.sdd.specs.Face.{opened_c, listed_c, asked_c, span_c, entry_c, found_c, TakenSmall, OpenedSmall, SpanSmall, ListedSmall, AskedSmall};
 
-use super::face::{CAnswer, CEntry, CListed, COpened, CSpan};
+use super::face::{CAnswer, CEntry, CListed, COpened, CSpan, Why};
 use super::jobs::flag;
 use super::kinds;
-use super::whys::{accepted, taken, why};
-use paper::answer::{Asked, Listed, Opened, Span};
+use super::whys::{accepted, why};
+use paper::entry::{Entry, Kind};
+use paper::refusal::Refusal;
+use paper::sizes::Sizes;
 
 // The sizes of a file of `len` bytes, in numbers.
-pub fn opened(o: Opened, len: usize) -> COpened
+pub fn opened(o: Result<Sizes, Refusal>, len: usize) -> COpened
     requires { OpenedSmall o }
     ensures { result ≡ opened_c len o }
 {
     match o {
-        Opened::Opens(z) => COpened {
+        Ok(z) => COpened {
             why: accepted(),
             n: z.n as u64,
             d: z.d as u64,
@@ -32,7 +36,7 @@ pub fn opened(o: Opened, len: usize) -> COpened
             room: z.room(len) as u64,
             version: z.version as u64,
         },
-        Opened::Refused(r) => COpened {
+        Err(r) => COpened {
             why: why(r),
             n: 0,
             d: 0,
@@ -57,16 +61,16 @@ pub extern "C" fn sdd_open(file: &[u8]) -> COpened
 }
 
 // A question's answer, in numbers.
-fn answered(a: Asked) -> CAnswer
+fn answered(a: Result<bool, Refusal>) -> CAnswer
     requires { AskedSmall a }
     ensures { result ≡ asked_c a }
 {
     match a {
-        Asked::Is(yes) => CAnswer {
+        Ok(yes) => CAnswer {
             why: accepted(),
             yes: flag(yes),
         },
-        Asked::Refused(r) => CAnswer {
+        Err(r) => CAnswer {
             why: why(r),
             yes: 0,
         },
@@ -81,16 +85,16 @@ pub extern "C" fn sdd_gaps_zero(file: &[u8]) -> CAnswer
 }
 
 // A number of scans, in numbers.
-fn counted(l: Listed) -> CListed
+fn counted(l: Result<usize, Refusal>) -> CListed
     requires { ListedSmall l }
     ensures { result ≡ listed_c l }
 {
     match l {
-        Listed::Scans(n) => CListed {
+        Ok(n) => CListed {
             why: accepted(),
             scans: n as u64,
         },
-        Listed::Refused(r) => CListed {
+        Err(r) => CListed {
             why: why(r),
             scans: 0,
         },
@@ -113,17 +117,37 @@ pub extern "C" fn sdd_find(file: &[u8], out: &mut [u64]) -> CListed
     counted(find::find(file, out))
 }
 
-#[unsafe(no_mangle)]
-pub extern "C" fn sdd_entry_at(file: &[u8], slot: u64) -> CEntry
-    ensures { result ≡ found_c (found_of file.now slot) }
+// The entry of a refused call: all zeros.
+fn nothing() -> Entry
+    ensures { result ≡ no_entry }
 {
-    let f = look::entry(file, slot as usize);
-    let e = f.entry;
-    let a = f.answer;
+    Entry {
+        first: 0,
+        last: 0,
+        horizontal: 0,
+        vertical: 0,
+        source: [0u8; 16],
+        scan: 0,
+        field4: 0,
+        field8: 0,
+        lst: 0,
+        date: 0,
+        mode: 0,
+        number: 0,
+        position: 0,
+        magic: 0,
+        kind: Kind::Other(0.0, 0.0),
+    }
+}
+
+// An entry's fields, in numbers.
+fn entry(why: Why, e: Entry) -> CEntry
+    ensures { result ≡ entry_c why e }
+{
     let k = e.kind;
     let source = e.source;
     CEntry {
-        why: taken(a),
+        why,
         first: e.first,
         last: e.last,
         horizontal: e.horizontal,
@@ -144,18 +168,36 @@ pub extern "C" fn sdd_entry_at(file: &[u8], slot: u64) -> CEntry
     }
 }
 
+// An answer, in numbers.
+fn found(f: Result<Entry, Refusal>) -> CEntry
+    requires { TakenSmall (taken_in f) }
+    ensures { result ≡ found_c f }
+{
+    match f {
+        Ok(e) => entry(accepted(), e),
+        Err(r) => entry(why(r), nothing()),
+    }
+}
+
+#[unsafe(no_mangle)]
+pub extern "C" fn sdd_entry_at(file: &[u8], slot: u64) -> CEntry
+    ensures { result ≡ found_c (found_of file.now slot) }
+{
+    found(look::entry(file, slot as usize))
+}
+
 // A span, in numbers.
-fn spanned(s: Span) -> CSpan
+fn spanned(s: Result<(usize, usize), Refusal>) -> CSpan
     requires { SpanSmall s }
     ensures { result ≡ span_c s }
 {
     match s {
-        Span::Part(from, to) => CSpan {
+        Ok((from, to)) => CSpan {
             why: accepted(),
             from: from as u64,
             to: to as u64,
         },
-        Span::Refused(r) => CSpan {
+        Err(r) => CSpan {
             why: why(r),
             from: 0,
             to: 0,

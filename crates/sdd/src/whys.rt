@@ -4,7 +4,6 @@ ghost use Rattle.paper.specs.Refusals.{value_of};
 ghost use Rattle.sdd.specs.Face.{none, why_of, taken_c, TakenSmall};
 
 use super::face::Why;
-use paper::answer::Taken;
 use paper::refusal::Refusal;
 
 pub fn accepted() -> Why
@@ -29,12 +28,12 @@ pub fn why(r: Refusal) -> Why
     }
 }
 
-pub fn taken(t: Taken) -> Why
+pub fn taken(t: Result<(), Refusal>) -> Why
     requires { TakenSmall t }
     ensures { result ≡ taken_c t }
 {
     match t {
-        Taken::Accepted => accepted(),
-        Taken::Refused(r) => why(r),
+        Ok(()) => accepted(),
+        Err(r) => why(r),
     }
 }

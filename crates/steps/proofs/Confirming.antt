@@ -1,4 +1,5 @@
 -- The comparison of a confirming step, from the calls that compare.
+use Rattle.std.specs.Prelude.{Ok, Err}
 use Prim.Native.Nat.{ℕ, ◌+◌, ◌*◌, ◌≤◌}
 use mathlib.Core.Path.{◌≡◌, refl, sym, ◌∙◌, ap}
 use mathlib.Core.Bool.{Bool, true, false, cond}
@@ -16,11 +17,8 @@ use Rattle.lent.proofs.Parts.{length_part, part_none}
 use Rattle.paper.specs.declared.sizes.Sizes.{Sizes}
 use Rattle.paper.specs.declared.refusal.Refusal.{Refusal}
 use Rattle.paper.specs.declared.refusal.Refusal.TheVariants.{Differs}
-use Rattle.paper.specs.declared.answer.Opened.{Opened}
-use Rattle.paper.specs.declared.answer.Opened.TheVariants as opened
+use Rattle.paper.specs.Answers.{Opened, StepAnswer}
 use Rattle.paper.specs.declared.job.Job.{Job}
-use Rattle.paper.specs.declared.job.Step.{Step}
-use Rattle.paper.specs.declared.job.Step.TheVariants.{Refused}
 use Rattle.paper.specs.Sizes.{start_of}
 use Rattle.paper.specs.Index.{open_of, entry_at}
 use Rattle.paper.specs.Store.{count_of, padded_of, entry_after}
@@ -86,11 +84,11 @@ module _ (f : List ℕ) (j : Job) (z : Sizes) where
 
 -- the file judged, and then the comparison
 module _ (f scan : List ℕ) (j : Job) (o : Opened) (is : o ≡ open_of f) where
-  pub hands_on : (r : Refusal) (x : Step) → o ≡ opened.Refused r → x ≡ handed_on o → x ≡ confirm_of f scan j (open_of f)
+  pub hands_on : (r : Refusal) (x : StepAnswer) → o ≡ Err r → x ≡ handed_on o → x ≡ confirm_of f scan j (open_of f)
   hands_on r x q p = p ∙ ap handed_on q ∙ ap (confirm_of f scan j) (sym q ∙ is)
 
-  pub not-standing : (z : Sizes) → o ≡ opened.Opens z → stands f scan j z ≡ false → Refused Differs ≡ confirm_of f scan j (open_of f)
-  not-standing z q s = ap (λ (t : Bool). cond t (confirmed j) (Refused Differs)) (sym s) ∙ ap (confirm_of f scan j) (sym q ∙ is)
+  pub not-standing : (z : Sizes) → o ≡ Ok z → stands f scan j z ≡ false → Err Differs ≡ confirm_of f scan j (open_of f)
+  not-standing z q s = ap (λ (t : Bool). cond t (confirmed j) (Err Differs)) (sym s) ∙ ap (confirm_of f scan j) (sym q ∙ is)
 
-  pub all-standing : (z : Sizes) (x : Step) → o ≡ opened.Opens z → stands f scan j z ≡ true → x ≡ confirmed j → x ≡ confirm_of f scan j (open_of f)
-  all-standing z x q s p = p ∙ ap (λ (t : Bool). cond t (confirmed j) (Refused Differs)) (sym s) ∙ ap (confirm_of f scan j) (sym q ∙ is)
+  pub all-standing : (z : Sizes) (x : StepAnswer) → o ≡ Ok z → stands f scan j z ≡ true → x ≡ confirmed j → x ≡ confirm_of f scan j (open_of f)
+  all-standing z x q s p = p ∙ ap (λ (t : Bool). cond t (confirmed j) (Err Differs)) (sym s) ∙ ap (confirm_of f scan j) (sym q ∙ is)

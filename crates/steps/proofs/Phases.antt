@@ -1,4 +1,5 @@
 -- A step by its phase: what the call of that phase hands back is what the definitions say.
+use Rattle.std.specs.Prelude.{Ok}
 use Prim.Native.Nat.{ℕ, ◌+◌, ◌-◌, ◌*◌, ◌≤◌, ◌<◌}
 use mathlib.Core.Path.{◌≡◌, sym, ◌∙◌, ap, subst}
 use mathlib.Core.Bool.{true, false, cond}
@@ -10,9 +11,8 @@ use lib.ListN.{take, drop}
 use Rattle.lent.specs.Part.{part}
 use Rattle.lent.specs.Write.{write, zeros, pad}
 use Rattle.paper.specs.declared.sizes.Sizes.{Sizes}
-use Rattle.paper.specs.declared.answer.Opened.TheVariants.{Opens}
 use Rattle.paper.specs.declared.job.Job.{Job}
-use Rattle.paper.specs.declared.job.Step.{Step}
+use Rattle.paper.specs.Answers.{StepAnswer}
 use Rattle.paper.specs.declared.job.Step.TheVariants.{Wrote}
 use Rattle.paper.specs.declared.job.Stepped.{Stepped}
 use Rattle.paper.specs.Refusals.{step_says}
@@ -36,7 +36,7 @@ module _ (f scan : List ℕ) (j : Job) (a : agrees f scan j ≡ true) where
   pub agreed-boot : {z : Sizes} → z ≡ sizes_of f → Booted f z
   agreed-boot e = subst (λ (y : Sizes). Booted f y) (sym e) (agreed f scan j a).booted
 
-  pub judged-home : {z : Sizes} → open_of f ≡ Opens z → Homed f z j × OldIn f z j
+  pub judged-home : {z : Sizes} → open_of f ≡ Ok z → Homed f z j × OldIn f z j
   judged-home {z} o = let g = agreeing-at (open-sound o).booted in (homed f scan j z g, old-in f scan j z g)
 
 module _ (f scan : List ℕ) (j : Job) (r : Stepped) (g : List ℕ) where
@@ -47,10 +47,10 @@ module _ (f scan : List ℕ) (j : Job) (r : Stepped) (g : List ℕ) where
   pub refused-step : agrees f scan j ≡ false → r ≡ disagreed j → g ≡ f → Done
   refused-step a p q = (p ∙ sym (stepped f scan j j _ (answer-refused f scan j a) (job-refused f scan j a)), q ∙ sym (file-refused f scan j a))
 
-  pub past-step : (z : Sizes) → agrees f scan j ≡ true → Booted f z → total_of z j ≤ j.written → (answer : Step) → answer ≡ confirm_of f scan j (open_of f)
+  pub past-step : (z : Sizes) → agrees f scan j ≡ true → Booted f z → total_of z j ≤ j.written → (answer : StepAnswer) → answer ≡ confirm_of f scan j (open_of f)
       → r ≡ record { answer = answer; job = j } → g ≡ f → Done
   past-step z a b w answer s p q = (
-    p ∙ ap (λ (x : Step). record { answer = x; job = j }) s
+    p ∙ ap (λ (x : StepAnswer). record { answer = x; job = j }) s
         ∙ sym (stepped f scan j _ _ (answer-past f scan j z a b.reads w) (job-past f scan j z a b.reads w)),
     q ∙ sym (step_past f scan j z a b.reads w),
   )
@@ -72,7 +72,7 @@ module _ (f scan : List ℕ) (j : Job) (r : ℕ) (g : List ℕ) (z : Sizes) (a :
   e : sizes_of f ≡ z
   e = b.reads
 
-  wrote-step : (n : ℕ) → j.written < total_of z j → step_answer f scan j ≡ Wrote n (j.written + 1) → r ≡ n → g ≡ step_file f scan j → Written
+  wrote-step : (n : ℕ) → j.written < total_of z j → step_answer f scan j ≡ Ok (Wrote n (j.written + 1)) → r ≡ n → g ≡ step_file f scan j → Written
   wrote-step n w answer p q = (
     ap (λ (x : ℕ). wrote_one x j (take 32 g)) p ∙ ap (λ (x : List ℕ). wrote_one n j (take 32 x)) q ∙ sym (stepped f scan j _ _ answer (job-head f scan j z a e w)),
     q,

@@ -1,26 +1,24 @@
 -- What a step answers besides its write, that a write is left, and what follows the entry.
-use Rattle.std.specs.Prelude.{ℕ, ◌+◌, ◌-◌, ◌≤◌, ◌<◌, ◌≡◌, cond, List, ltb}
+use Rattle.std.specs.Prelude.{ℕ, ◌+◌, ◌-◌, ◌≤◌, ◌<◌, ◌≡◌, cond, List, ltb, Ok, Err}
 use Rattle.lent.specs.Write.{zeros}
 use Rattle.paper.specs.declared.sizes.Sizes.{Sizes}
 use Rattle.paper.specs.declared.refusal.Refusal.TheVariants.{Disagrees}
-use Rattle.paper.specs.declared.answer.Opened.{Opened}
-use Rattle.paper.specs.declared.answer.Opened.TheVariants as opened
+use Rattle.paper.specs.Answers.{Opened, StepAnswer}
 use Rattle.paper.specs.declared.job.Job.{Job}
-use Rattle.paper.specs.declared.job.Step.{Step}
-use Rattle.paper.specs.declared.job.Step.TheVariants.{Wrote, Refused}
+use Rattle.paper.specs.declared.job.Step.TheVariants.{Wrote}
 use Rattle.paper.specs.declared.job.Stepped.{Stepped}
 use Rattle.paper.specs.Sizes.{start_of}
 use Rattle.paper.specs.Store.{Write, count_of, sizes_write, lowered, change_of, total_of}
 use Rattle.writes.specs.Inside.{Lying}
 
 -- a refusal of the file's, as the step's
-abbrev pub handed_on : Opened → Step
-handed_on (opened.Opens z) = Wrote 0 0
-handed_on (opened.Refused r) = Refused r
+abbrev pub handed_on : Opened → StepAnswer
+handed_on (Ok z) = Ok (Wrote 0 0)
+handed_on (Err r) = Err r
 
 -- 14: the job as it was
 abbrev pub disagreed : Job → Stepped
-disagreed j = record { answer = Refused Disagrees; job = j }
+disagreed j = record { answer = Err Disagrees; job = j }
 
 -- of the job's k data records and what follows them, one is left to write
 pub record Left (z : Sizes) (j : Job) (k : ℕ) : Type 0 where

@@ -9,117 +9,72 @@ use paper::sizes::Sizes;
 use writes::count;
 
 // The lengths of scan and file, and the first 32 bytes, are the job's.
+#[tactic(auto, unfolding(crate::specs::Tests::same_file))]
 fn same_file(file: &[u8], scan: &[u8], j: Job) -> bool
     ensures { result ≡ same_file file.now scan.now j }
 {
-    if scan.len() != j.size {
-        return false;
-    }
-    if file.len() != j.span {
-        return false;
-    }
     let b = j.boot;
-    if !lent::compare::same(lent::part::part(file, 0, 32), &b) {
-        return false;
-    }
-    true
+    scan.len() == j.size
+        && file.len() == j.span
+        && lent::compare::same(lent::part::part(file, 0, 32), &b)
 }
 
 // None of 1 to 5 is the file's, whichever it would be.
+#[tactic(auto, unfolding(crate::specs::Tests::boot_holds))]
 fn boot_holds(file: &[u8], z: Sizes) -> bool
     ensures { result ≡ boot_holds file.now z }
 {
-    if file.len() < 512 {
-        return false;
-    }
-    if lent::read::word32(file, 28) != 1 {
-        return false;
-    }
-    if !bootstrap::ranges::in_range(z) {
-        return false;
-    }
-    if file.len() < (z.n + z.d) * z.l {
-        return false;
-    }
-    true
+    512 <= file.len()
+        && lent::read::word32(file, 28) == 1
+        && bootstrap::ranges::in_range(z)
+        && (z.n + z.d) * z.l <= file.len()
 }
 
+#[tactic(auto, unfolding(crate::specs::Tests::has_slot))]
 pub fn has_slot(z: Sizes, s: usize) -> bool
     requires { Shaped z }
     ensures { result ≡ has_slot z s }
 {
-    if s < 1 {
-        return false;
-    }
-    if z.capacity() < s {
-        return false;
-    }
-    true
+    1 <= s && s <= z.capacity()
 }
 
 // The room bounds the count before the two are added to anything.
+#[tactic(auto, unfolding(crate::specs::Tests::save_fits))]
 fn save_fits(z: Sizes, len: usize, j: Job) -> bool
     requires { Shaped z }
     ensures { result ≡ save_fits z len j }
 {
-    if j.size == 0 {
-        return false;
-    }
-    if j.first <= z.n {
-        return false;
-    }
     let k = count::records(z, j);
     let room = z.room(len);
-    if room < k {
-        return false;
-    }
-    if room + 1 - k < j.first {
-        return false;
-    }
-    true
+    0 < j.size && z.n < j.first && k <= room && j.first <= room + 1 - k
 }
 
 // Of a clear nothing is asked.
+#[tactic(auto, unfolding(crate::specs::Tests::records_fit))]
 fn records_fit(z: Sizes, len: usize, j: Job) -> bool
     requires { Shaped z }
     ensures { result ≡ records_fit z len j }
 {
-    if j.saves {
-        return save_fits(z, len, j);
-    }
-    true
+    !j.saves || save_fits(z, len, j)
 }
 
 // The old run, where it has records, lies within N+1 to the room, which bounds their number before it is added to anything.
+#[tactic(auto, unfolding(crate::specs::Tests::old_fits))]
 fn old_fits(z: Sizes, len: usize, j: Job) -> bool
     requires { Shaped z }
     ensures { result ≡ old_fits z len j }
 {
-    if j.many == 0 {
-        return true;
-    }
-    if j.old <= z.n {
-        return false;
-    }
     let room = z.room(len);
-    if room < j.many {
-        return false;
-    }
-    if room + 1 - j.many < j.old {
-        return false;
-    }
-    true
+    j.many == 0 || z.n < j.old && j.many <= room && j.old <= room + 1 - j.many
 }
 
 // The new run and the old one.
+#[tactic(auto, unfolding(crate::specs::Tests::runs_fit))]
 fn runs_fit(z: Sizes, len: usize, j: Job) -> bool
     requires { Shaped z }
     ensures { result ≡ runs_fit z len j }
 {
-    if !records_fit(z, len, j) {
-        return false;
-    }
-    old_fits(z, len, j)
+    records_fit(z, len, j) && old_fits(z, len, j)
 }
 
 // All of it; z is what the file's bootstrap says.

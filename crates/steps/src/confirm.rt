@@ -6,7 +6,6 @@ ghost use Rattle.writes.specs.Inside.{Homed};
 ghost use Rattle.steps.specs.Tests.{given_stands, old_gone, OldIn};
 ghost use Rattle.steps.specs.Answers.{handed_on};
 
-use paper::answer::Opened;
 use paper::job::{Job, Step};
 use paper::refusal::Refusal;
 use paper::sizes::Sizes;
@@ -44,47 +43,45 @@ fn old_gone(file: &[u8], z: Sizes, j: Job) -> bool
 }
 
 // All that the job was to leave.
+#[tactic(auto, unfolding(paper::specs::Step::stands, crate::specs::Tests::given_stands, crate::specs::Tests::old_gone))]
 fn stands(file: &[u8], scan: &[u8], z: Sizes, j: Job) -> bool
     requires { Homed file.now z j × OldIn file.now z j }
     ensures { result ≡ stands file.now scan.now j z }
 {
-    if !given_stands(file, scan, z, j) {
-        return false;
-    }
-    old_gone(file, z, j)
+    given_stands(file, scan, z, j) && old_gone(file, z, j)
 }
 
 // A refusal of the file's, handed on. (A file that opens is not.)
-fn handed_on(o: Opened) -> Step
+fn handed_on(o: Result<Sizes, Refusal>) -> Result<Step, Refusal>
     ensures { result ≡ handed_on o }
 {
     match o {
-        Opened::Opens(_) => Step::Wrote(0, 0),
-        Opened::Refused(r) => Step::Refused(r),
+        Ok(_) => Ok(Step::Wrote(0, 0)),
+        Err(r) => Err(r),
     }
 }
 
 // Record 0, and the count.
-fn confirmed(j: Job) -> Step
+fn confirmed(j: Job) -> Result<Step, Refusal>
     ensures { result ≡ confirmed j }
 {
     if j.saves {
-        return Step::Saved(0, j.written);
+        return Ok(Step::Saved(0, j.written));
     }
-    Step::Cleared(0, j.written)
+    Ok(Step::Cleared(0, j.written))
 }
 
 // The file's judgement is not the job's word for it: the index is judged again, and its sizes serve the comparison.
-pub fn confirm(file: &[u8], scan: &[u8], j: Job) -> Step
+pub fn confirm(file: &[u8], scan: &[u8], j: Job) -> Result<Step, Refusal>
     requires { agrees file.now scan.now j ≡ true }
     ensures { result ≡ confirm_of file.now scan.now j (open_of file.now) }
 {
     let o = index::judge(file);
-    let Opened::Opens(z) = o else {
+    let Ok(z) = o else {
         return handed_on(o);
     };
     if !stands(file, scan, z, j) {
-        return Step::Refused(Refusal::Differs);
+        return Err(Refusal::Differs);
     }
     confirmed(j)
 }

@@ -10,6 +10,7 @@ ghost use Rattle.paper.specs.Step.{agrees, step_file, stepped_of};
 ghost use Rattle.writes.specs.Inside.{Homed, wrote_one};
 ghost use Rattle.steps.specs.Answers.{Left, Late, late_write, disagreed};
 
+use entries::file::File;
 use paper::job::{Job, Step, Stepped};
 use paper::refusal::Refusal;
 use paper::sizes::Sizes;
@@ -19,11 +20,12 @@ pub mod agree;
 pub mod confirm;
 
 // The job as it was.
+#[inline(always)]
 fn refused(j: Job) -> Stepped
     ensures { result ≡ disagreed j }
 {
     Stepped {
-        answer: Step::Refused(Refusal::Disagrees),
+        answer: Err(Refusal::Disagrees),
         job: j,
     }
 }
@@ -34,7 +36,7 @@ fn boot_next(file: &mut [u8], z: Sizes, j: Job) -> usize
     ensures value { result ≡ 1 }
     ensures file_after { file.new ≡ write file.old 0 (boot_bytes (sizes_after file.old z j)) }
 {
-    let u = used::highest(file, z, j.slot);
+    let u = used::highest(File { bytes: file, z }, j.slot);
     write::write_boot(file, z, j, u)
 }
 
@@ -44,7 +46,7 @@ fn used_next(file: &mut [u8], z: Sizes) -> usize
     ensures value { result ≡ 1 }
     ensures file_after { file.new ≡ write file.old 0 (boot_bytes (lowered file.old z)) }
 {
-    let u = used::highest(file, z, 0);
+    let u = used::highest(File { bytes: file, z }, 0);
     write::write_used(file, z, u)
 }
 
@@ -84,6 +86,7 @@ fn write_next(file: &mut [u8], scan: &[u8], z: Sizes, j: Job, k: usize) -> usize
 
 // One write, or past the last the confirmation. A step that writes judges no index. The bootstrap that the job then expects
 // is the file's, whichever record was written: from one place, its 32 bytes are moved and not taken apart.
+#[inline(always)]
 fn next(file: &mut [u8], scan: &[u8], z: Sizes, j: Job) -> Stepped
     requires booted { Booted file.old z }
     requires j_value { agrees file.old scan.now j ≡ true }
@@ -101,6 +104,7 @@ fn next(file: &mut [u8], scan: &[u8], z: Sizes, j: Job) -> Stepped
 }
 
 // Refusal 14 with every one of its causes, then one write or the confirmation.
+#[inline(always)]
 pub fn stepped(file: &mut [u8], scan: &[u8], j: Job) -> Stepped
     ensures value { result ≡ stepped_of file.old scan.now j }
     ensures file_after { file.new ≡ step_file file.old scan.now j }

@@ -1,4 +1,5 @@
 -- Blank: its refusal, and the file that it leaves.
+use Rattle.std.specs.Prelude.{Ok, Err}
 use Prim.Native.Nat.{ℕ, ◌*◌, ◌≤◌}
 use mathlib.Core.Path.{◌≡◌}
 use mathlib.Core.Bool.{true, false}
@@ -10,8 +11,7 @@ use Rattle.lent.specs.Write.{write, pad}
 use Rattle.lent.proofs.Lists.{all_true}
 use Rattle.paper.specs.declared.sizes.Sizes.{Sizes}
 use Rattle.paper.specs.declared.refusal.Refusal.TheVariants.{BadBlank}
-use Rattle.paper.specs.declared.answer.Taken.{Taken}
-use Rattle.paper.specs.declared.answer.Taken.TheVariants.{Accepted, Refused}
+use Rattle.paper.specs.Answers.{Taken}
 use Rattle.paper.specs.Sizes.{boot_bytes, Shaped}
 use Rattle.paper.specs.Store.{blank_tests, blank_sizes, blank_of, blank_file}
 use Rattle.paper.proofs.Opening.{shaped-facts}
@@ -38,12 +38,12 @@ module _ (n l m : ℕ) where
   narrow-blank h = record { n = omega arith; d = omega arith; l = omega arith; m = omega arith; u = omega arith; kind = omega arith }
 
   module _ (f g : List ℕ) (r : Taken) where
-    pub blank-refused : blank_fits (length f) (blank_sizes n l m) ≡ false → r ≡ Refused BadBlank → g ≡ f
+    pub blank-refused : blank_fits (length f) (blank_sizes n l m) ≡ false → r ≡ Err BadBlank → g ≡ f
         → (r ≡ blank_of f n l m) × (g ≡ blank_file f n l m)
     unfolding blank_of blank_file blank_fits
     blank-refused e p q = (rw e p, rw e q)
 
-    pub blank-accepted : (b : List ℕ) → blank_fits (length f) (blank_sizes n l m) ≡ true → r ≡ Accepted → b ≡ boot_bytes (blank_sizes n l m) → g ≡ write f 0 (pad (n * l) b)
+    pub blank-accepted : (b : List ℕ) → blank_fits (length f) (blank_sizes n l m) ≡ true → r ≡ Ok tt → b ≡ boot_bytes (blank_sizes n l m) → g ≡ write f 0 (pad (n * l) b)
         → (r ≡ blank_of f n l m) × (g ≡ blank_file f n l m)
     unfolding blank_of blank_file blank_fits
     blank-accepted b e p s q = (rw e p, rw (e, ← s) q)

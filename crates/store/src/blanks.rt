@@ -3,7 +3,6 @@ ghost use Rattle.std.specs.Prelude.{◌≡◌};
 ghost use Rattle.paper.specs.Store.{blank_of, blank_file};
 ghost use Rattle.store.specs.Blank.{blank_fits};
 
-use paper::answer::Taken;
 use paper::refusal::Refusal;
 use paper::sizes::Sizes;
 
@@ -11,17 +10,11 @@ use paper::sizes::Sizes;
 fn fits(len: usize, z: Sizes) -> bool
     ensures { result ≡ blank_fits len z }
 {
-    if !bootstrap::ranges::shaped(z) {
-        return false;
-    }
-    if len < z.n * z.l {
-        return false;
-    }
-    true
+    bootstrap::ranges::shaped(z) && z.n * z.l <= len
 }
 
 // One write: the bootstrap and zeros after it. Nothing beyond the N records is touched.
-pub fn blanked(file: &mut [u8], n: usize, l: usize, m: usize) -> Taken
+pub fn blanked(file: &mut [u8], n: usize, l: usize, m: usize) -> Result<(), Refusal>
     ensures value { result ≡ blank_of file.old n l m }
     ensures file_after { file.new ≡ blank_file file.old n l m }
 {
@@ -36,9 +29,9 @@ pub fn blanked(file: &mut [u8], n: usize, l: usize, m: usize) -> Taken
         version: 1,
     };
     if !fits(file.len(), z) {
-        return Taken::Refused(Refusal::BadBlank);
+        return Err(Refusal::BadBlank);
     }
     let b = writes::boot::boot_bytes(z);
     lent::write::put_padded(file, 0, n * l, &b);
-    Taken::Accepted
+    Ok(())
 }

@@ -1,7 +1,6 @@
 //! The run of 01: a blank file, three saves, the list, a save into the records that the third of them left free, and one that finds no room.
 #![tactic(auto)]
 
-use paper::answer::Taken;
 use paper::job::{Job, Step};
 use paper::refusal::Refusal;
 use std::io;
@@ -13,7 +12,8 @@ fn number(rt: &impl Print, n: usize) -> io::Result<()> {
 fn refused(rt: &impl Print, r: Refusal) -> io::Result<()> {
     print!(rt; "refused")?;
     number(rt, r.number())?;
-    number(rt, r.value())
+    number(rt, r.value())?;
+    println!(rt)
 }
 
 fn record_and_count(rt: &impl Print, record: usize, count: usize) -> io::Result<()> {
@@ -23,40 +23,28 @@ fn record_and_count(rt: &impl Print, record: usize, count: usize) -> io::Result<
 }
 
 // Says what a step answered; whether the job goes on.
-fn goes_on(rt: &impl Print, a: Step) -> io::Result<bool> {
+fn goes_on(rt: &impl Print, a: Result<Step, Refusal>) -> io::Result<bool> {
     match a {
-        Step::Wrote(r, n) => {
+        Ok(Step::Wrote(r, n)) => {
             print!(rt; "wrote")?;
             record_and_count(rt, r, n)?;
             println!(rt)?;
             Ok(true)
         }
-        Step::Saved(r, n) => {
+        Ok(Step::Saved(r, n)) => {
             print!(rt; "saved")?;
             record_and_count(rt, r, n)?;
             println!(rt)?;
             Ok(false)
         }
-        Step::Cleared(r, n) => {
+        Ok(Step::Cleared(r, n)) => {
             print!(rt; "cleared")?;
             record_and_count(rt, r, n)?;
             println!(rt)?;
             Ok(false)
         }
-        Step::Refused(r) => {
+        Err(r) => {
             refused(rt, r)?;
-            println!(rt)?;
-            Ok(false)
-        }
-    }
-}
-
-fn begins(rt: &impl Print, a: Taken) -> io::Result<bool> {
-    match a {
-        Taken::Accepted => Ok(true),
-        Taken::Refused(r) => {
-            refused(rt, r)?;
-            println!(rt)?;
             Ok(false)
         }
     }
@@ -89,11 +77,10 @@ fn save(
     println!(rt)?;
     let scan = lent::part::part(&bytes, 0, size);
     let about = [5u8; 54];
-    let b = store::save(&*file, slot, scan, &about);
-    if begins(rt, b.answer)? {
-        run(rt, file, scan, b.job)?;
+    match store::save(&*file, slot, scan, &about) {
+        Ok(job) => run(rt, file, scan, job),
+        Err(r) => refused(rt, r),
     }
-    Ok(())
 }
 
 // A scan whose first 256 bytes are preamble and classes: 13 classes, at words 5, 21, 22, .. 32, and HEADLEN 256. `high` is the upper half of DATALEN.
@@ -122,8 +109,9 @@ fn list(rt: &impl Print, file: &[u8]) -> io::Result<()> {
 
 fn main(rt: HostRuntime) -> io::Result<()> {
     let mut file = [9u8; 4096];
-    if begins(&rt, store::blank(&mut file, 3, 512, 64))? {
-        println!(rt; "blank")?;
+    match store::blank(&mut file, 3, 512, 64) {
+        Ok(()) => println!(rt; "blank")?,
+        Err(r) => refused(&rt, r)?,
     }
     // DATALEN 744, 256 and 768.
     let a = scan_of(1082605568);

@@ -11,14 +11,10 @@ use Rattle.paper.specs.Index.{run_of, empty, Full}
 use Rattle.paper.specs.Store.{highest}
 use Rattle.paper.proofs.Opening.{empty-facts, full-facts}
 use Rattle.paper.proofs.Used.{highest-below, highest-is}
-use Rattle.entries.specs.Row.{Stated, Filled, Bare}
-use Rattle.entries.proofs.Judging.{bare-one, bare-more}
+use Rattle.entries.specs.Row.{Stated, Bare}
+use Rattle.entries.proofs.Judging.{bare-more}
 
 module _ {f : List ℕ} {z : Sizes} where
-  -- one more after those that are empty
-  pub one_up : {i s x y : ℕ} → (x ≡ 0 → Bare f z i s) → Filled f z (s + 1) y → x + y ≡ 0 → Bare f z i (s + 1)
-  one_up {i} {s} {x} {y} a t e = bare-more f z i s (s + 1) (a (omega arith)) (bare-one f z s (s + 1) y t (omega arith) (omega arith))
-
   pub eight-down : {i top : ℕ} → 8 ≤ i → Bare f z i top → Bare f z (i - 8) (i - 8 + 8) → Bare f z (i - 8) top
   eight-down {i} {top} h a b = let e : i - 8 + 8 ≡ i = omega arith in bare-more f z (i - 8) i top (subst (Bare f z (i - 8)) e b) a
 

@@ -1,5 +1,6 @@
 -- What `whole_of` gives, by the fields of a double's bits: with the digits q and the exponent's field x the number is q * 2 ^ (x - 1) / 2 ^ 1074.
 -- Assumes nothing.
+use Rattle.std.specs.Prelude.{None}
 use Prim.Native.Nat.{ℕ, zero, suc, ◌+◌, ◌*◌, ◌/◌, ◌%◌, ◌^◌, ◌≤◌, ◌<◌}
 use mathlib.Core.Bool.{Bool, true, false, cond, true≢false}
 use mathlib.Core.Path.{◌≡◌, refl, sym, ◌∙◌}
@@ -11,7 +12,6 @@ use lib.Pow.{pow_pos}
 use lib.Ieee.{Float, nan, inf, fin, binary64, up, down, odd, of_fields, of_bits}
 use lib.Ieee.Exact.{HasValue, odd_sign}
 use lib.Ieee.Fits.{down_pos}
-use Rattle.whole.specs.declared.Whole.TheVariants.{Not}
 use Rattle.whole.specs.Number.{exactly, whole_float, whole_of}
 use Rattle.whole.proofs.Fraction.{exactly-same}
 
@@ -58,33 +58,33 @@ subnormal b h =
 -- ---- no number
 
 -- a field of all ones: an infinity or not a number
-endless : (s t : Bool) → whole_float (cond t (inf s) nan) ≡ Not
+endless : (s t : Bool) → whole_float (cond t (inf s) nan) ≡ None
 unfolding whole_float
 endless s true = refl
 endless s false = refl
 
-pub all_ones : (b : ℕ) → exponent b ≡ 2047 → whole_of b ≡ Not
+pub all_ones : (b : ℕ) → exponent b ≡ 2047 → whole_of b ≡ None
 unfolding of_fields
 all_ones b e = plain b (omega arith) ∙ simp e (endless false (eqb (b % lead) 0))
 
 -- ---- the sign bit set
 
-negative : (x : Float) (a c : ℕ) → HasValue x true a c → whole_float x ≡ Not
+negative : (x : Float) (a c : ℕ) → HasValue x true a c → whole_float x ≡ None
 unfolding whole_float
 negative nan a c h = absurd h
 negative (inf s) a c h = absurd h
 negative (fin true m e) a c h = refl
 negative (fin false m e) a c h = absurd (true≢false (sym h.0))
 
-signed : (x t : ℕ) → whole_float (of_fields binary64 true x t) ≡ Not
+signed : (x t : ℕ) → whole_float (of_fields binary64 true x t) ≡ None
 unfolding of_fields
 signed zero t = negative _ _ _ (odd_sign 53 true t 0 1074)
 signed (suc k) t = go (eqb (suc k) 2047)
   where
-    go : (a : Bool) → whole_float (cond a (cond (eqb t 0) (inf true) nan) (odd 53 true (lead + t) k 1074)) ≡ Not
+    go : (a : Bool) → whole_float (cond a (cond (eqb t 0) (inf true) nan) (odd 53 true (lead + t) k 1074)) ≡ None
     go true = endless true (eqb t 0)
     go false = negative _ _ _ (odd_sign 53 true (lead + t) k 1074)
 
-pub minus : (b : ℕ) → 2048 ≤ exponent b → whole_of b ≡ Not
+pub minus : (b : ℕ) → 2048 ≤ exponent b → whole_of b ≡ None
 unfolding whole_of of_bits
 minus b h = simp (le-leb 9223372036854775808 b (omega arith)) (signed (b % 9223372036854775808 / lead) (b % lead))

@@ -1,4 +1,5 @@
 -- What `exactly` gives: two ways to write one fraction agree. Assumes nothing.
+use Rattle.std.specs.Prelude.{Some, None}
 use Prim.Native.Nat.{ℕ, suc, ◌*◌, ◌/◌, ◌%◌, ◌≤◌, ◌<◌}
 use mathlib.Core.Bool.{Bool, true, false}
 use mathlib.Core.Path.{◌≡◌, refl, sym, ap, ◌∙◌, subst}
@@ -6,14 +7,13 @@ use native.Mathlib.Nat.{mul-div-mul_right, div-add-mod', mul-mod_left, mul_right
 use native.Mathlib.Omega.{arith}
 use borrow.Author.Tests.{eq-eqb, ne_eqb, lt-leb, eqb-true, eqb-false}
 use lib.Dec.{eqb}
-use Rattle.whole.specs.declared.Whole.TheVariants.{Is, Not}
 use Rattle.whole.specs.Number.{exactly, up_to}
 
-pub exactly-yes : (a d : ℕ) → a % d ≡ 0 → exactly a d ≡ Is (a / d)
+pub exactly-yes : (a d : ℕ) → a % d ≡ 0 → exactly a d ≡ Some (a / d)
 unfolding exactly
 exactly-yes a d h = simp (eq-eqb (a % d) 0 h)
 
-pub exactly-no : (a d : ℕ) → (a % d ≡ 0 → ⊥) → exactly a d ≡ Not
+pub exactly-no : (a d : ℕ) → (a % d ≡ 0 → ⊥) → exactly a d ≡ None
 unfolding exactly
 exactly-no a d h = simp (ne_eqb (a % d) 0 h)
 
@@ -33,20 +33,20 @@ exactly-same a d c l hd hl e = go (eqb (a % d) 0) refl
     go : (t : Bool) → eqb (a % d) 0 ≡ t → exactly a d ≡ exactly c l
     go true q =
         let z = eqb-true (a % d) 0 q in
-        exactly-yes a d z ∙ ap Is (quotients a d c l hd hl e) ∙ sym (exactly-yes c l (cross a d c l hd e z))
+        exactly-yes a d z ∙ ap Some (quotients a d c l hd hl e) ∙ sym (exactly-yes c l (cross a d c l hd e z))
     go false q =
         let n = eqb-false (a % d) 0 q in
         exactly-no a d n ∙ sym (exactly-no c l (λ z. n (cross c l a d hl (sym e) z)))
 
 -- a fraction between 0 and 1
-pub exactly-small : (a d : ℕ) → 0 < a → a < d → exactly a d ≡ Not
+pub exactly-small : (a d : ℕ) → 0 < a → a < d → exactly a d ≡ None
 exactly-small a d p h = exactly-no a d (λ z. let e = mod-eq_of_lt h in omega arith)
 
 -- a fraction above k, integer or not
-pub exactly-large : (k a d : ℕ) → 0 < d → suc k * d ≤ a → up_to k (exactly a d) ≡ Not
+pub exactly-large : (k a d : ℕ) → 0 < d → suc k * d ≤ a → up_to k (exactly a d) ≡ None
 unfolding up_to
 exactly-large k a d hd h = go (eqb (a % d) 0) refl
   where
-    go : (t : Bool) → eqb (a % d) 0 ≡ t → up_to k (exactly a d) ≡ Not
+    go : (t : Bool) → eqb (a % d) 0 ≡ t → up_to k (exactly a d) ≡ None
     go true q = simp (exactly-yes a d (eqb-true (a % d) 0 q), lt-leb (a / d) k ((le-div_iff_mul-le hd).1 h))
     go false q = simp (exactly-no a d (eqb-false (a % d) 0 q))

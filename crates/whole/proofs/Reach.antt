@@ -1,4 +1,5 @@
 -- The cases that the code tells apart, by the exponent's field: below 1, in reach of 65,536, beyond it. Assumes nothing.
+use Rattle.std.specs.Prelude.{Some, None}
 use Prim.Native.Nat.{ℕ, zero, suc, ◌+◌, ◌-◌, ◌*◌, ◌/◌, ◌%◌, ◌^◌, ◌≤◌, ◌<◌}
 use mathlib.Core.Bool.{Bool, true, false}
 use mathlib.Core.Path.{◌≡◌, refl, sym, ap, ◌∙◌, subst}
@@ -8,20 +9,19 @@ use borrow.Author.Tests.{ltb-true, ltb-false, eqb-true, eqb-false, le-leb, lt-le
 use lib.Dec.{ltb, eqb, lit<, lit≤}
 use lib.Ieee.{of_bits}
 use lib.Pow.{pow-add, pow_pos, pow_mono, shl_exact}
-use Rattle.whole.specs.declared.Whole.TheVariants.{Is, Not}
 use Rattle.whole.specs.Number.{exactly, whole_float, whole_of, up_to}
 use Rattle.whole.proofs.Fraction.{exactly-yes, exactly-no, exactly-same, exactly-small, exactly-large}
 use Rattle.whole.proofs.Double.{lead, exponent, digits, normal, subnormal, all_ones, minus}
 
-pub of_zero : (b : ℕ) → b ≡ 0 → up_to 65536 (whole_of b) ≡ Is 0
+pub of_zero : (b : ℕ) → b ≡ 0 → up_to 65536 (whole_of b) ≡ Some 0
 unfolding up_to whole_of of_bits whole_float exactly
 of_zero b z = rw z refl
 
-pub below_one : (b : ℕ) → 0 < b → exponent b < 1023 → up_to 65536 (whole_of b) ≡ Not
+pub below_one : (b : ℕ) → 0 < b → exponent b < 1023 → up_to 65536 (whole_of b) ≡ None
 unfolding up_to
 below_one b p h = ap (up_to 65536) (go (exponent b) refl h)
   where
-    go : (x : ℕ) → exponent b ≡ x → x < 1023 → whole_of b ≡ Not
+    go : (x : ℕ) → exponent b ≡ x → x < 1023 → whole_of b ≡ None
     go zero e h =
         let s : b < lead = omega arith in
         subnormal b s ∙ exactly-small b (2 ^ 1074) (omega arith) (lt_of_lt_of_le s (pow_mono {i = 52} {j = 1074} (lit≤ tt)))
@@ -31,11 +31,11 @@ below_one b p h = ap (up_to 65536) (go (exponent b) refl h)
         normal b k e (omega arith)
         ∙ exactly-small _ _ (mul-pos (omega arith) (pow_pos k)) (lt_of_lt_of_le (mul-lt-mul_of_pos_right q (pow_pos k)) least)
 
-pub beyond : (b : ℕ) → 1039 < exponent b → up_to 65536 (whole_of b) ≡ Not
+pub beyond : (b : ℕ) → 1039 < exponent b → up_to 65536 (whole_of b) ≡ None
 unfolding up_to
 beyond b h = go (ltb (exponent b) 2047) (eqb (exponent b) 2047) refl refl
   where
-    go : (s t : Bool) → ltb (exponent b) 2047 ≡ s → eqb (exponent b) 2047 ≡ t → up_to 65536 (whole_of b) ≡ Not
+    go : (s t : Bool) → ltb (exponent b) 2047 ≡ s → eqb (exponent b) 2047 ≡ t → up_to 65536 (whole_of b) ≡ None
     go true t q r =
         let l = ltb-true (exponent b) 2047 q in
         let k = exponent b - 1 in
@@ -73,18 +73,18 @@ module _ (b : ℕ) (lo : 1023 ≤ exponent b) (hi : exponent b ≤ 1039) where
       ∙ exactly-same (digits b * 2 ^ k) (2 ^ 1074) (digits b) (2 ^ l) (pow_pos 1074) (pow_pos l) (mul_assoc (digits b) (2 ^ k) (2 ^ l) ∙ ap (λ (n : ℕ). digits b * n) (sym (pow-add 2 k l) ∙ ap (λ (n : ℕ). 2 ^ n) s))
       ∙ ap (exactly (digits b)) (sym (unit-is l (omega arith)))
 
-  pub no-integer : 0 < digits b % u → up_to 65536 (whole_of b) ≡ Not
+  pub no-integer : 0 < digits b % u → up_to 65536 (whole_of b) ≡ None
   unfolding up_to
   no-integer n = ap (up_to 65536) (in_reach ∙ exactly-no (digits b) u (λ z. omega arith))
 
   module _ (z : digits b % u ≡ 0) where
-    integer : whole_of b ≡ Is (digits b / u)
+    integer : whole_of b ≡ Some (digits b / u)
     integer = in_reach ∙ exactly-yes (digits b) u z
 
-    pub above : 65536 < digits b / u → up_to 65536 (whole_of b) ≡ Not
+    pub above : 65536 < digits b / u → up_to 65536 (whole_of b) ≡ None
     unfolding up_to
     above h = simp (integer, lt-leb (digits b / u) 65536 h)
 
-    pub within : digits b / u ≤ 65536 → up_to 65536 (whole_of b) ≡ Is (digits b / u)
+    pub within : digits b / u ≤ 65536 → up_to 65536 (whole_of b) ≡ Some (digits b / u)
     unfolding up_to
     within h = simp (integer, le-leb (digits b / u) 65536 h)

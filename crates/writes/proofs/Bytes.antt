@@ -1,11 +1,10 @@
 -- Bytes set one after the other: words, and an entry.
-use Rattle.std.proofs.Common.{◌≡◌, ℕ, ◌+◌, ◌-◌, ◌≤◌, Bool, true, false, cond, List, [], ◌∷◌, ◌++◌, length, sym, ap, ◌∙◌, append_assoc, arith, length-append}
+use Rattle.std.proofs.Common.{◌≡◌, ℕ, ◌+◌, ◌-◌, Bool, true, cond, List, [], ◌∷◌, ◌++◌, length, sym, ap, ◌∙◌, append_assoc, arith, length-append}
 use Rattle.lent.specs.Number.{words}
 use Rattle.lent.specs.Part.{part}
 use Rattle.lent.specs.Same.{same}
 use Rattle.lent.specs.Write.{zeros, pad}
 use Rattle.lent.proofs.Numbers.{length-numbers}
-use Rattle.lent.proofs.Parts.{length_part}
 use Rattle.paper.specs.declared.sizes.Sizes.{Sizes}
 use Rattle.paper.specs.declared.sizes.Run.{Run}
 use Rattle.paper.specs.declared.job.Job.{Job}
@@ -32,13 +31,6 @@ entry-saved z j b s e h =
     ap (pad z.m) e ∙ sym (entry-pad z r j.about (omega (arith, length-numbers 4 (r.first ∷ r.last ∷ []))))
     ∙ ap (λ (t : Bool). cond t (entry_bytes z r j.about) (zeros z.m)) (sym s)
 
-entry-cleared : (f : List ℕ) (z : Sizes) (j : Job) (b : List ℕ) → j.saves ≡ false → b ≡ entry_at f z j.slot → home_of z j.slot + z.m ≤ length f
-    → zeros (length b) ≡ entry_after z j
-entry-cleared f z j b s e h =
-    let at = home_of z j.slot in
-    let l : length b ≡ z.m = ap length e ∙ omega (arith, length_part at (at + z.m) f h) in
-    rw s (ap zeros l)
-
 -- the comparison with it, from the calls that compare
 module _ (f : List ℕ) (z : Sizes) (j : Job) (at : ℕ) (p : List ℕ) (r : Bool) (home : at ≡ home_of z j.slot) (there : p ≡ part at (at + z.m) f) where
   entry-there : p ≡ entry_at f z j.slot
@@ -46,6 +38,3 @@ module _ (f : List ℕ) (z : Sizes) (j : Job) (at : ℕ) (p : List ℕ) (r : Boo
 
   pub stands-saved : (b : List ℕ) → j.saves ≡ true → b ≡ front_of z j → length b ≡ 62 → r ≡ same p (pad z.m b) → r ≡ same (entry_at f z j.slot) (entry_after z j)
   stands-saved b s e h q = q ∙ ap (same p) (entry-saved z j b s e h) ∙ ap (λ (x : List ℕ). same x (entry_after z j)) entry-there
-
-  pub stands-cleared : j.saves ≡ false → home_of z j.slot + z.m ≤ length f → r ≡ same p (zeros (length p)) → r ≡ same (entry_at f z j.slot) (entry_after z j)
-  stands-cleared s h q = q ∙ ap (same p) (entry-cleared f z j p s entry-there h) ∙ ap (λ (x : List ℕ). same x (entry_after z j)) entry-there

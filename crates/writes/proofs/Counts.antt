@@ -1,16 +1,23 @@
 -- How many records a scan takes and a job has to write, and the sizes that its bootstrap states.
-use Rattle.std.proofs.Common.{◌≡◌, ℕ, ◌+◌, ◌-◌, ◌*◌, ◌/◌, ◌≤◌, max, Bool, true, false, cond, List, refl, ap, ◌∙◌, mul-le-mul, arith}
-use native.Mathlib.Nat.{div-eq_of_lt, add-div_right}
+use Rattle.std.proofs.Common.{◌≡◌, ℕ, ◌+◌, ◌-◌, ◌*◌, ◌/◌, ◌%◌, ◌<◌, ◌≤◌, max, min, Bool, true, false, cond, List, refl, sym, ap, ◌∙◌, mul-le-mul, arith}
+use native.Mathlib.Nat.{add-div_right}
+use Rattle.std.proofs.lemmas.Nat.{div-mul-add}
+use Rattle.std.proofs.lemmas.Grind.{div_ceil_times}
 use Rattle.paper.specs.declared.sizes.Sizes.{Sizes}
 use Rattle.paper.specs.declared.job.Job.{Job}
 use Rattle.paper.specs.Sizes.{renewed, capacity_of, start_of, Shaped, Ranged}
-use Rattle.paper.specs.Store.{highest, records_for, count_of, data_after, used_after, counter_after, sizes_after, lowers_of, lowered}
+use Rattle.paper.specs.Store.{highest, records_for, count_of, data_after, used_after, counter_after, sizes_after, lowered}
 use Rattle.paper.proofs.Used.{highest-le}
 use Rattle.writes.specs.Inside.{Narrow, Placed, Held}
 
--- "S / L rounded up", without a sum that could wrap
-pub records-none : (z : Sizes) (size : ℕ) → Shaped z → size ≡ 0 → records_for z size ≡ 0
-records-none z size h e = rw e (div-eq_of_lt (omega arith))
+-- "S / L rounded up", as the library has it
+pub rounded-up : (x y : ℕ) → 0 < y → x / y + min 1 (x % y) ≡ (x + (y - 1)) / y
+rounded-up x y h =
+    let n : ℕ = x / y + min 1 (x % y) in
+    let b : ℕ = x + (y - 1) - n * y in
+    let t = div_ceil_times x y h in
+    let e : x + (y - 1) ≡ n * y + b = omega arith in
+    sym (ap (λ (k : ℕ). k / y) e ∙ div-mul-add n y b (omega arith))
 
 pub records-some : (z : Sizes) (size : ℕ) → Shaped z → 1 ≤ size → records_for z size ≡ (size - 1) / z.l + 1
 records-some z size h k =
@@ -23,28 +30,7 @@ count-save z j e = rw e
 pub count-clear : (z : Sizes) (j : Job) → j.saves ≡ false → 0 ≡ count_of z j
 count-clear z j e = rw e
 
--- how many make the change
-module _ (j : Job) (k : ℕ) where
-  pub change-save : j.saves ≡ true → k + 2 ≡ k + 2 + cond (lowers_of j) 1 0
-  change-save e = omega (arith, ap (λ (b : Bool). cond {A = ℕ} (cond b false j.lowers) 1 0) e)
-
-  pub change-clear : j.saves ≡ false → j.lowers ≡ false → k + 2 ≡ k + 2 + cond (lowers_of j) 1 0
-  change-clear e l =
-      omega (arith, ap (λ (b : Bool). cond {A = ℕ} (cond b false j.lowers) 1 0) e ∙ ap (λ (b : Bool). cond {A = ℕ} b 1 0) l)
-
-  pub change-lowers : j.saves ≡ false → j.lowers ≡ true → k + 3 ≡ k + 2 + cond (lowers_of j) 1 0
-  change-lowers e l =
-      omega (arith, ap (λ (b : Bool). cond {A = ℕ} (cond b false j.lowers) 1 0) e ∙ ap (λ (b : Bool). cond {A = ℕ} b 1 0) l)
-
--- the sizes that the job's bootstrap states, with any U
-pub after-save : (z : Sizes) (j : Job) (u : ℕ) → j.saves ≡ true
-    → renewed z (max z.d (j.first + count_of z j - 1 - z.n)) u (counter_after z) ≡ renewed z (data_after z j) u (counter_after z)
-after-save z j u e = rw e
-
-pub after-clear : (z : Sizes) (j : Job) (u : ℕ) → j.saves ≡ false → renewed z z.d u (counter_after z) ≡ renewed z (data_after z j) u (counter_after z)
-after-clear z j u e = rw e
-
--- and that they fit their words
+-- the sizes that the job's bootstrap states fit their words
 pub narrow : (z : Sizes) (d u c : ℕ) → Ranged z → d ≤ 1000001 → u ≤ capacity_of z → Narrow (renewed z d u c)
 narrow z d u c r p q = record { n = omega arith; d = omega arith; l = omega arith; m = omega arith; u = omega arith; kind = omega arith }
 

@@ -1,5 +1,5 @@
 -- What the inner functions require: plain facts about a job that agrees with a file, as numbers that code can compute with.
-use Rattle.std.specs.Prelude.{◌≡◌, ℕ, ◌+◌, ◌-◌, ◌*◌, ◌<◌, ◌≤◌, true, List, [], ◌∷◌, ◌++◌, length}
+use Rattle.std.specs.Prelude.{◌≡◌, ℕ, ◌+◌, ◌-◌, ◌*◌, ◌<◌, ◌≤◌, true, List, [], ◌∷◌, ◌++◌, length, Ok}
 use Rattle.lent.specs.Number.{words}
 use Rattle.paper.specs.declared.sizes.Sizes.{Sizes}
 use Rattle.paper.specs.declared.job.Job.{Job}
@@ -56,4 +56,4 @@ front_of z j = words (j.first ∷ (j.first + count_of z j - 1) ∷ []) ++ j.abou
 
 -- what a step that wrote record r hands back: the job with one write more, that then expects the bootstrap `boot`
 abbrev pub wrote_one : ℕ → Job → List ℕ → Stepped
-wrote_one r j boot = record { answer = Wrote r (j.written + 1); job = placed j (j.written + 1) boot }
+wrote_one r j boot = record { answer = Ok (Wrote r (j.written + 1)); job = placed j (j.written + 1) boot }

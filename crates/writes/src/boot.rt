@@ -29,12 +29,14 @@ pub fn boot_bytes(z: Sizes) -> [u8; 32]
     b
 }
 
-// The first 32 bytes of a file.
+// The first 32 bytes of a file. By way of `part`, so that the compiler moves them as they are: of a copy of known length it loads again what it has read of
+// them, in pieces, and a step waits for these.
+#[inline(always)]
 pub fn head(file: &[u8]) -> [u8; 32]
     requires { 32 ≤ length file.now }
     ensures { result ≡ take 32 file.now }
 {
     let mut b = [0u8; 32];
-    lent::write::copy(&mut b, lent::part::part(file, 0, 32));
+    lent::write::copy_to(&mut b, 0, lent::part::part(file, 0, 32));
     b
 }

@@ -6,15 +6,12 @@ ghost use Rattle.paper.specs.Store.{records_for, count_of, lowers_of};
 use paper::job::Job;
 use paper::sizes::Sizes;
 
-// How many records `size` bytes take: no sum that could wrap.
+// How many records `size` bytes take.
 pub fn records_for(z: Sizes, size: usize) -> usize
     requires { Shaped z }
     ensures { result ≡ records_for z size }
 {
-    if size == 0 {
-        return 0;
-    }
-    (size - 1) / z.l + 1
+    size.div_ceil(z.l)
 }
 
 // How many data records a job has to write.
@@ -22,10 +19,7 @@ pub fn records(z: Sizes, j: Job) -> usize
     requires { Shaped z }
     ensures { result ≡ count_of z j }
 {
-    if j.saves {
-        return records_for(z, j.size);
-    }
-    0
+    if j.saves { records_for(z, j.size) } else { 0 }
 }
 
 // How many make a job's change, of which `k` are data records: record 1, the index record, and for a clear that lowers U record 1 again.
@@ -33,13 +27,7 @@ pub fn change(j: Job, k: usize) -> usize
     requires { k ≤ 1000001 }
     ensures { result ≡ k + 2 + (if lowers_of j then 1 else 0) }
 {
-    if j.saves {
-        return k + 2;
-    }
-    if j.lowers {
-        return k + 3;
-    }
-    k + 2
+    if !j.saves && j.lowers { k + 3 } else { k + 2 }
 }
 
 // How many a job has to write in all: those, and zeros over each record of the old run.

@@ -1,5 +1,5 @@
 //! The kinds of a job's writes: a data record, record 1, the slot's entry, record 1 with a lowered U, a record of zeros. Each answers the record that it wrote.
-ghost use Rattle.std.specs.Prelude.{◌≡◌, ◌+◌, ◌*◌, ◌<◌, ◌≤◌, max};
+ghost use Rattle.std.specs.Prelude.{◌≡◌, ◌+◌, ◌*◌, ◌<◌, ◌≤◌};
 ghost use Rattle.lent.specs.Write.{write, zeros, pad};
 ghost use Rattle.lent.specs.Part.{part};
 ghost use Rattle.paper.specs.Sizes.{start_of, record_of, home_of, boot_bytes, renewed};
@@ -12,6 +12,7 @@ use paper::job::{Job, Step, Stepped};
 use paper::sizes::Sizes;
 
 // The answer for the record written, and the job one write on, which then expects the bootstrap `boot`.
+#[inline(always)]
 pub fn wrote(number: usize, j: Job, boot: [u8; 32]) -> Stepped
     requires { j.written ≤ 2000004 }
     ensures { result ≡ wrote_one number j boot }
@@ -21,7 +22,7 @@ pub fn wrote(number: usize, j: Job, boot: [u8; 32]) -> Stepped
     next.boot = boot;
     next.written = count;
     Stepped {
-        answer: Step::Wrote(number, count),
+        answer: Ok(Step::Wrote(number, count)),
         job: next,
     }
 }
@@ -41,24 +42,16 @@ pub fn write_data(file: &mut [u8], scan: &[u8], z: Sizes, j: Job) -> usize
     r
 }
 
-fn higher(a: usize, b: usize) -> usize
-    ensures { result ≡ max a b }
-{
-    if a < b {
-        return b;
-    }
-    a
-}
-
 // "after all ones comes zero": the counter goes up by a wrapping add.
 fn renew(z: Sizes, d: usize, u: usize) -> Sizes
     ensures { result ≡ renewed z d u (counter_after z) }
 {
-    let mut y = z;
-    y.d = d;
-    y.u = u;
-    y.counter = std::num::wrapping_add_u32(z.counter, 1);
-    y
+    Sizes {
+        d,
+        u,
+        counter: z.counter.wrapping_add(1),
+        ..z
+    }
 }
 
 // The sizes that the job's bootstrap states, with the U that it is to have.
@@ -68,7 +61,7 @@ fn sizes_after(z: Sizes, j: Job, u: usize) -> Sizes
 {
     if j.saves {
         let d = j.first + count::records(z, j) - 1 - z.n;
-        return renew(z, higher(z.d, d), u);
+        return renew(z, z.d.max(d), u);
     }
     renew(z, z.d, u)
 }
@@ -92,9 +85,7 @@ pub fn write_used(file: &mut [u8], z: Sizes, u: usize) -> usize
     ensures value { result ≡ 1 }
     ensures file_after { file.new ≡ write file.old 0 (boot_bytes (lowered file.old z)) }
 {
-    let mut y = z;
-    y.u = u;
-    let b = boot::boot_bytes(y);
+    let b = boot::boot_bytes(Sizes { u, ..z });
     lent::write::copy_to(file, 0, &b);
     1
 }

@@ -1,16 +1,12 @@
 use native.Mathlib.Omega.{arith}
-use Rattle.paper.proofs.Opening.{boot-sound}
 use Rattle.find.proofs.Reporting.{report-small, report-done}
 use Rattle.find.proofs.searched.Goals as goal
 
-pub count-n-requires : goal.count-n-requires
-count-n-requires c = boot-sound c.requires
-
 pub returns-then-out-n : goal.returns-then-out-n
-returns-then-out-n c = let both = report-small _ _ (boot-sound c.requires) c.count-n.ensures.0 (omega arith) in record { value = both.0; out_after = both.1 }
+returns-then-out-n c = let both = report-small _ _ c.args.file.booted c.count-n.ensures.0 (omega arith) in record { value = both.0; out_after = both.1 }
 
 pub fill-requires : goal.fill-requires
-fill-requires c = record { booted = (boot-sound c.requires, c.count-n.ensures.0, c.count-n.ensures.1); n_in_bounds = omega arith }
+fill-requires c = record { n_bound = c.count-n.ensures; n_in_bounds = omega arith }
 
 pub returns : goal.returns
-returns c = let both = report-done _ _ (boot-sound c.requires) c.count-n.ensures.0 (omega arith) c.fill.ensures in record { value = both.0; out_after = both.1 }
+returns c = let both = report-done _ _ c.args.file.booted c.count-n.ensures.0 (omega arith) c.fill.ensures in record { value = both.0; out_after = both.1 }

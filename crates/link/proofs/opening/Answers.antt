@@ -1,12 +1,6 @@
 use Rattle.link.proofs.Pieces.{took-rest}
 use Rattle.link.proofs.opening.Goals as goal
 
-pub headed-d-requires : goal.headed-d-requires
-headed-d-requires c = (c.requires.1, c.requires.2)
-
-pub body-requires : goal.body-requires
-body-requires c = c.requires.0
-
 pub returns : goal.returns
 returns c =
     let b = c.body.ensures in

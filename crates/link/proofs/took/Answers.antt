@@ -3,15 +3,6 @@ use mathlib.Core.Path.{sym, ◌∙◌}
 use native.Mathlib.Omega.{arith}
 use Rattle.link.proofs.took.Goals as goal
 
-pub opening-requires : goal.opening-requires
-opening-requires c = (c.requires, c.head_len-h.ensures, omega arith)
-
-pub returns-then-h-ne0 : goal.returns-then-h-ne0
-returns-then-h-ne0 c = record { value = c.opening.ensures.value; row_after = c.opening.ensures.row_after }
-
-pub body-requires : goal.body-requires
-body-requires c = c.requires
-
 pub returns : goal.returns
 returns c =
     let b = c.body.ensures in

@@ -1,10 +1,7 @@
 -- `listing::refused`: number and slot fit the line, whatever the refusal.
 use Rattle.std.proofs.Common.{arith}
-use Rattle.listing.proofs.Texts.{refused-short, refused-put}
+use Rattle.listing.proofs.Texts.{refused-short}
 use Rattle.listing.proofs.refused.Goals as goal
 
 pub two-requires : goal.two-requires
 two-requires c = omega (arith, refused-short c.number.result c.value.result)
-
-pub returns : goal.returns
-returns c = refused-put c.args.r c.number.ensures c.value.ensures c.two.ensures

@@ -6,16 +6,16 @@ use native.Mathlib.Omega.{arith}
 use Rattle.room.proofs.lowest_empty.Goals as goal
 
 pub loop-i-init : goal.loop-i-init
-loop-i-init c = (omega arith, none-zero _)
+loop-i-init c = none-zero _
 
 pub returns-then-empty : goal.returns-then-empty
-returns-then-empty c = vacant-here _ _ _ c.loop-i.invariant.1 (read empty c.run_in-a.ensures c.empty.ensures c.if-empty.true) (omega arith) (omega arith)
+returns-then-empty c = vacant-here _ _ _ c.loop-i.invariant (read empty c.run_in-a.ensures c.empty.ensures c.if-empty.true) (omega arith) (omega arith)
 
 pub loop-i-preserved : goal.loop-i-preserved
-loop-i-preserved c = (omega arith, none_more c.loop-i.invariant.1 (read empty c.run_in-a.ensures c.empty.ensures c.if-empty.false))
+loop-i-preserved c = none_more c.loop-i.invariant (read empty c.run_in-a.ensures c.empty.ensures c.if-empty.false)
 
-pub returns-then-capacity-u : goal.returns-then-capacity-u
-returns-then-capacity-u c = vacant-none _ _ _ c.loop-i.invariant.1 (omega arith) (omega arith)
+pub returns-then-capacity-z : goal.returns-then-capacity-z
+returns-then-capacity-z c = vacant-none _ _ _ c.loop-i.invariant (omega arith) (omega arith)
 
 pub returns : goal.returns
-returns c = vacant-above _ _ _ c.loop-i.invariant.1 (omega arith) (omega arith)
+returns c = vacant-above _ _ _ c.loop-i.invariant (omega arith) (omega arith)

@@ -1,6 +1,7 @@
-use Rattle.index.proofs.Laying.{fits_low}
+use Rattle.marks.proofs.Marking.{clear-zeros}
+use Rattle.std.proofs.lemmas.List.{length-replicate}
 use native.Mathlib.Omega.{arith}
 use Rattle.runs.proofs.judge_marks.Goals as goal
 
-pub judge_above-requires : goal.judge_above-requires
-judge_above-requires c = record { ranged = c.requires.ranged; fits = fits_low c.laid-k.ensures.1 _ (omega arith) }
+pub laid-k-requires : goal.laid-k-requires
+laid-k-requires g c = record { ranged = c.requires.ranged; reach = (record { long = rw (length-replicate _ _) (omega arith) }, clear-zeros _) }

@@ -12,6 +12,3 @@ pub lay_rest-requires : goal.lay_rest-requires
 lay_rest-requires c =
     let t = c.take_run in
     record { ranged = c.requires.ranged.0; u_in_bounds = (omega arith, omega arith, fits-none _ _ _ refl); reach = (record { long = omega (arith, t.auto.marks) }, shows-none _ (row_run _) c.requires.reach.1 (t.ensures c.if-not-take_run.false)) }
-
-pub returns : goal.returns
-returns c = c.lay_rest.ensures.upper_bound

@@ -8,16 +8,13 @@ use native.Mathlib.Omega.{arith}
 use Rattle.runs.proofs.rising.Goals as goal
 
 pub loop-i-init : goal.loop-i-init
-loop-i-init c = (omega arith, climbs-none _ _)
-
-pub run_in-a-requires : goal.run_in-a-requires
-run_in-a-requires c = record { low = omega arith; high = omega arith; wide = omega arith }
+loop-i-init c = climbs-none _ _
 
 pub returns-then-not-still : goal.returns-then-not-still
 returns-then-not-still c e = absurd (true≢false e refl)
 
 pub loop-i-preserved : goal.loop-i-preserved
-loop-i-preserved c = (omega arith, climbs-more _ (row_run _) _ _ c.loop-i.invariant.1 _ c.run_in-a.ensures (c.still.ensures c.if-not-still.false) _ c.higher-top.ensures.0 c.higher-top.ensures.1)
+loop-i-preserved c = climbs-more _ (row_run _) _ _ c.loop-i.invariant _ c.run_in-a.ensures (c.still.ensures c.if-not-still.false) _ (omega arith) (omega arith)
 
 pub returns : goal.returns
-returns c e = fits_low (climbs-fits c.loop-i.invariant.1 (leb-true _ _ e)) _ (omega arith)
+returns c e = fits_low (climbs-fits c.loop-i.invariant (leb-true _ _ e)) _ (omega arith)

@@ -1,18 +1,15 @@
+use Prim.Native.Nat.{◌+◌, ◌-◌}
+use mathlib.Core.Path.{◌≡◌}
 use native.Mathlib.Omega.{arith}
 use Rattle.entries.proofs.Judging.{bare-more}
 use Rattle.used.proofs.Downward.{one_down, here, nowhere}
 use Rattle.used.proofs.highest_to.Goals as goal
 
-pub past_empty-t-requires : goal.past_empty-t-requires
-past_empty-t-requires c =
-    let p = c.requires in
-    record { booted = p.booted; top_bound = (p.bare.0.low, p.bare.1) }
+pub past_empty-from-requires : goal.past_empty-from-requires
+past_empty-from-requires c = (c.requires.bare.low, c.requires.s_bound)
 
 pub loop-t-init : goal.loop-t-init
-loop-t-init c = bare-more _ _ _ _ _ c.past_empty-t.ensures c.requires.bare.0
-
-pub run_at-a-requires : goal.run_at-a-requires
-run_at-a-requires c = record { booted = c.requires.booted; low = omega arith; high = c.loop-t.invariant.low }
+loop-t-init c = let e : c.past_empty-from.result + 1 - 1 ≡ c.past_empty-from.result = omega arith in rw e (bare-more _ _ _ _ _ c.past_empty-from.ensures c.requires.bare)
 
 pub returns-then-not-empty : goal.returns-then-not-empty
 returns-then-not-empty c = let b = c.loop-t.invariant in here _ _ (omega arith) b.low b c.run_at-a.ensures c.empty.ensures c.if-not-empty.true

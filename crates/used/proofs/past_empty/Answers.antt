@@ -6,11 +6,5 @@ use Rattle.used.proofs.past_empty.Goals as goal
 pub loop-i-init : goal.loop-i-init
 loop-i-init c = bare-none _ _ _
 
-pub returns-then-not-eight_empty : goal.returns-then-not-eight_empty
-returns-then-not-eight_empty c = c.loop-i.invariant
-
 pub loop-i-preserved : goal.loop-i-preserved
-loop-i-preserved c = eight-down (omega arith) c.loop-i.invariant (c.eight_empty.ensures c.if-not-eight_empty.false)
-
-pub returns : goal.returns
-returns c = c.loop-i.invariant
+loop-i-preserved c = eight-down (omega arith) c.loop-i.invariant (c.all_empty.ensures c.if-not-all_empty.false)

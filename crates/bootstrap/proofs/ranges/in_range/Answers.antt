@@ -1,7 +1,8 @@
-use mathlib.Core.Path.{sym}
 use Rattle.bootstrap.proofs.Booting.{not-ranged, shape-kept, shape-broken}
 use native.Mathlib.Omega.{arith}
-use Rattle.paper.proofs.Opening.{facts-range}
+use Rattle.paper.proofs.Opening.{facts-range, range-facts}
+use Rattle.std.specs.Cmp.{both_ways}
+use borrow.Author.Tests.{leb-true, le-leb}
 use Rattle.std.proofs.Common.{ap, not}
 use Rattle.bootstrap.proofs.ranges.in_range.Goals as goal
 
@@ -20,8 +21,7 @@ capacity-requires c = shape-kept _ c.shaped.ensures (ap not c.if-not-shaped.fals
 pub returns-then-capacity-z : goal.returns-then-capacity-z
 returns-then-capacity-z c = not-ranged _ (λ r. omega arith)
 
-pub returns-then-z-gt-MAX_KIND : goal.returns-then-z-gt-MAX_KIND
-returns-then-z-gt-MAX_KIND c = not-ranged _ (λ r. omega arith)
-
 pub returns : goal.returns
-returns c = let h = shape-kept _ c.shaped.ensures (ap not c.if-not-shaped.false) in sym (facts-range _ (record { shape = h; records = omega arith; used = omega arith; known = omega arith }))
+returns c =
+    let h = shape-kept _ c.shaped.ensures (ap not c.if-not-shaped.false) in
+    both_ways _ _ (λ e. facts-range _ (record { shape = h; records = omega arith; used = omega arith; known = omega (arith, leb-true _ _ e) })) (λ e. le-leb _ _ (range-facts _ e).known)

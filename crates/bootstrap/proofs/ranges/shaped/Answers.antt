@@ -1,35 +1,25 @@
 use native.Mathlib.Omega.{arith}
-use mathlib.Core.Path.{sym}
-use Rattle.paper.proofs.Opening.{facts-shaped}
-use Rattle.bootstrap.proofs.Booting.{not-shaped, index-bytes}
+use borrow.Author.Tests.{leb-true, le-leb}
+use Rattle.std.specs.Cmp.{both_ways}
+use Rattle.paper.proofs.Opening.{facts-shaped, shaped-facts}
+use Rattle.bootstrap.proofs.Booting.{not-shaped, within, outside}
 use Rattle.bootstrap.proofs.ranges.shaped.Goals as goal
 
-pub returns-then-n-lt-MIN_N : goal.returns-then-n-lt-MIN_N
-returns-then-n-lt-MIN_N c = not-shaped _ (λ r. omega arith)
+pub returns-then-not-contains : goal.returns-then-not-contains
+returns-then-not-contains c = let n = c.new.ensures in not-shaped _ (λ r. outside _ _ _ _ n.start n.end n.exhausted c.contains.ensures.value c.if-not-contains.true (omega arith, omega arith))
 
-pub returns-then-n-gt-MAX_N : goal.returns-then-n-gt-MAX_N
-returns-then-n-gt-MAX_N c = not-shaped _ (λ r. omega arith)
+pub returns-then-not-contains-2 : goal.returns-then-not-contains-2
+returns-then-not-contains-2 c = let n = c.new-2.ensures in not-shaped _ (λ r. outside _ _ _ _ n.start n.end n.exhausted c.contains-2.ensures.value c.if-not-contains-2.true (omega arith, omega arith))
 
-pub returns-then-l-lt-MIN_L : goal.returns-then-l-lt-MIN_L
-returns-then-l-lt-MIN_L c = not-shaped _ (λ r. omega arith)
+pub returns-then-not-contains-3 : goal.returns-then-not-contains-3
+returns-then-not-contains-3 c = let n = c.new-3.ensures in not-shaped _ (λ r. outside _ _ _ _ n.start n.end n.exhausted c.contains-3.ensures.value c.if-not-contains-3.true (omega arith, omega arith))
 
-pub returns-then-l-gt-MAX_L : goal.returns-then-l-gt-MAX_L
-returns-then-l-gt-MAX_L c = not-shaped _ (λ r. omega arith)
-
-pub returns-then-m-lt-MIN_M : goal.returns-then-m-lt-MIN_M
-returns-then-m-lt-MIN_M c = not-shaped _ (λ r. omega arith)
-
-pub returns-then-l-m : goal.returns-then-l-m
-returns-then-l-m c = not-shaped _ (λ r. omega arith)
-
-pub returns-then-l-m-ne0 : goal.returns-then-l-m-ne0
-returns-then-l-m-ne0 c = not-shaped _ (λ r. omega arith)
-
-pub overflow_mul-n : goal.overflow_mul-n
-overflow_mul-n c = omega (arith, index-bytes c.args.z (omega arith) (omega arith))
-
-pub returns-then-n-l-gt-MAX_SLOTS : goal.returns-then-n-l-gt-MAX_SLOTS
-returns-then-n-l-gt-MAX_SLOTS c = not-shaped _ (λ r. omega arith)
+pub returns-then-z-ne0 : goal.returns-then-z-ne0
+returns-then-z-ne0 c = not-shaped _ (λ r. omega arith)
 
 pub returns : goal.returns
-returns c = sym (facts-shaped _ (omega arith))
+returns c =
+    let n = within c.new.ensures.start c.new.ensures.end c.if-not-contains.ensures.cases in
+    let l = within c.new-2.ensures.start c.new-2.ensures.end c.if-not-contains-2.ensures.cases in
+    let m = within c.new-3.ensures.start c.new-3.ensures.end c.if-not-contains-3.ensures.cases in
+    both_ways _ _ (λ e. facts-shaped _ (omega (arith, n.0, n.1, l.0, l.1, m.0, m.1, leb-true _ _ e))) (λ e. le-leb _ _ (let h = shaped-facts _ e in omega arith))

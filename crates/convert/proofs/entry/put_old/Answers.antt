@@ -1,16 +1,7 @@
 use mathlib.Core.Path.{refl}
 use native.Mathlib.Omega.{arith}
-use Rattle.convert.proofs.Storing.{reads_in, told_in, none-current, some-current}
+use Rattle.convert.proofs.Storing.{none-current, some-current}
 use Rattle.convert.proofs.entry.put_old.Goals as goal
-
-pub overflow_add-at : goal.overflow_add-at
-overflow_add-at c = omega (arith, reads_in _ _ _ _ _ c.requires)
-
-pub load32-last-requires : goal.load32-last-requires
-load32-last-requires c = omega (arith, reads_in _ _ _ _ _ c.requires)
-
-pub old_scan-requires : goal.old_scan-requires
-old_scan-requires c = told_in _ _ _ _ _ _ c.requires c.home-at.ensures
 
 pub returns-then-z-wide : goal.returns-then-z-wide
 returns-then-z-wide c =

@@ -1,11 +1,5 @@
-use Rattle.convert.proofs.Recording.{short, narrow, boot_old, boot_current}
+use Rattle.convert.proofs.Recording.{boot_old, boot_current}
 use Rattle.convert.proofs.records.put_boot.Goals as goal
-
-pub old_bytes-b-requires : goal.old_bytes-b-requires
-old_bytes-b-requires c = short _ _ _ c.requires c.if-v-eq0.true
-
-pub boot_bytes-b-requires : goal.boot_bytes-b-requires
-boot_bytes-b-requires c = narrow _ _ _ c.requires
 
 pub returns-then-v-eq0 : goal.returns-then-v-eq0
 returns-then-v-eq0 c = boot_old _ _ _ _ _ c.put_padded.ensures c.if-v-eq0.true c.old_bytes-b.ensures

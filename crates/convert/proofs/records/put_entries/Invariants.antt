@@ -1,4 +1,4 @@
-use Prim.Native.Nat.{◌*◌, ◌-◌, ◌≤◌}
+use Prim.Native.Nat.{◌*◌, ◌-◌}
 use mathlib.Core.List.{◌++◌}
 use mathlib.Core.Path.{◌≡◌}
 use lib.ListN.{length}
@@ -8,7 +8,4 @@ use Rattle.convert.proofs.records.put_entries.Given as goal
 
 abbrev pub invariant-loop-i : goal.invariant-loop-i
 invariant-loop-i l =
-    (l.i ≤ l.u) × (length l.out ≡ length l.initial.out) × (l.out ≡ write l.initial.out l.z.l (entries_as l.v l.z.m (carried_at l.file l.z) l.i ++ zeros ((l.u - l.i) * l.z.m)))
-
-abbrev pub decreases-loop-i : goal.decreases-loop-i
-decreases-loop-i l = l.u - l.i
+    (length l.out ≡ length l.initial.out) × (l.out ≡ write l.initial.out l.z.l (entries_as l.v l.z.m (carried_at l.file l.z) l.i ++ zeros ((l.z.u - l.i) * l.z.m)))

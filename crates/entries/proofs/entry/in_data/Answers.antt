@@ -1,5 +1,7 @@
 use native.Mathlib.Omega.{arith}
 use mathlib.Core.Path.{sym}
+use borrow.Author.Tests.{leb-true, le-leb}
+use Rattle.std.specs.Cmp.{both_ways}
 use Rattle.lent.proofs.Lists.{not_so}
 use Rattle.paper.proofs.Opening.{data-facts, facts-data}
 use Rattle.entries.proofs.entry.in_data.Goals as goal
@@ -10,8 +12,5 @@ returns-then-a-z c = sym (not_so (λ e. let h = data-facts _ _ e in omega arith)
 pub returns-then-a : goal.returns-then-a
 returns-then-a c = sym (not_so (λ e. let h = data-facts _ _ e in omega arith))
 
-pub returns-then-z-a : goal.returns-then-z-a
-returns-then-z-a c = sym (not_so (λ e. let h = data-facts _ _ e in omega arith))
-
 pub returns : goal.returns
-returns c = sym (facts-data _ _ (omega arith))
+returns c = both_ways _ _ (λ e. facts-data _ _ (omega (arith, leb-true _ _ e))) (λ e. le-leb _ _ (let h = data-facts _ _ e in omega arith))

@@ -1,5 +1,7 @@
 use native.Mathlib.Omega.{arith}
 use mathlib.Core.Path.{sym}
+use Rattle.std.specs.Cmp.{both_ways}
+use borrow.Author.Tests.{leb-true, le-leb}
 use Rattle.lent.proofs.Lists.{not_so}
 use Rattle.paper.proofs.Opening.{share-facts, facts-share}
 use Rattle.entries.proofs.entry.shares.Goals as goal
@@ -10,11 +12,8 @@ returns-then-a-eq0 c = sym (not_so (λ e. let h = share-facts _ _ e in omega ari
 pub returns-then-b-eq0 : goal.returns-then-b-eq0
 returns-then-b-eq0 c = sym (not_so (λ e. let h = share-facts _ _ e in omega arith))
 
-pub returns-then-b-a : goal.returns-then-b-a
-returns-then-b-a c = sym (not_so (λ e. let h = share-facts _ _ e in omega arith))
-
 pub returns-then-a-b : goal.returns-then-a-b
-returns-then-a-b c = sym (not_so (λ e. let h = share-facts _ _ e in omega arith))
+returns-then-a-b c = both_ways _ _ (λ e. facts-share _ _ (omega (arith, leb-true _ _ e))) (λ e. le-leb _ _ (let h = share-facts _ _ e in omega arith))
 
-pub returns : goal.returns
-returns c = sym (facts-share _ _ (omega arith))
+pub returns-else-a-b : goal.returns-else-a-b
+returns-else-a-b c = both_ways _ _ (λ e. absurd (omega (arith, leb-true _ _ e))) (λ e. absurd (let h = share-facts _ _ e in omega arith))

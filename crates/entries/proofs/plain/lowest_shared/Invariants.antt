@@ -1,10 +1,6 @@
 use Rattle.paper.specs.Index.{row_run, shared_at}
 use Rattle.lent.specs.Least.{None}
-use Prim.Native.Nat.{◌≤◌, ◌-◌}
 use Rattle.entries.proofs.plain.lowest_shared.Given as goal
 
 abbrev pub invariant-loop-i : goal.invariant-loop-i
-invariant-loop-i l = (l.i ≤ l.u) × None (shared_at (row_run l.row)) l.i
-
-abbrev pub decreases-loop-i : goal.decreases-loop-i
-decreases-loop-i l = l.u - l.i
+invariant-loop-i l = None (shared_at (row_run l.row)) l.i

@@ -3,23 +3,23 @@ use native.Mathlib.Omega.{arith}
 use Rattle.find.proofs.walk.fill.Goals as goal
 
 pub loop-at-init : goal.loop-at-init
-loop-at-init c = let p = c.requires in fill_start (omega arith) p.booted.1 (omega (arith, p.n_in_bounds)) (omega arith)
+loop-at-init c = let p = c.requires in fill_start (omega arith) p.n_bound.0 (omega (arith, p.n_in_bounds)) (omega arith)
 
 pub takes-k-requires : goal.takes-k-requires
 takes-k-requires c =
     let i = c.loop-at.invariant in
-    record { booted = c.requires.booted.0; le_r = (omega (arith, i.past), fill-within i (omega arith)) }
+    (omega (arith, i.past), fill-within i (omega arith))
 
 pub put-at-requires : goal.put-at-requires
 put-at-requires c =
-    let B = c.requires.booted.0 in
+    let B = c.args.file.booted in
     let i = c.loop-at.invariant in
     let w = fill-within i (omega arith) in
-    record { booted = (B, omega (arith, i.past), w, omega (arith, c.takes-k.ensures, takes-few B _ (omega (arith, i.past)) w)); k_in_bounds = fill-room i B (omega arith) c.takes-k.ensures }
+    record { r_bound = (omega (arith, i.past), w, omega (arith, c.takes-k.ensures, takes-few B _ (omega (arith, i.past)) w)); k_in_bounds = fill-room i B (omega arith) c.takes-k.ensures }
 
 pub after-r-requires : goal.after-r-requires
 after-r-requires c =
-    let B = c.requires.booted.0 in
+    let B = c.args.file.booted in
     let i = c.loop-at.invariant in
     let w = fill-within i (omega arith) in
     (omega (arith, w, B.ranged.records), omega (arith, c.takes-k.ensures, takes-few B _ (omega (arith, i.past)) w))
@@ -28,7 +28,7 @@ pub loop-at-smaller : goal.loop-at-smaller
 loop-at-smaller c = omega (arith, c.after-r.ensures, further c.loop-at.r c.takes-k.result, fill-within c.loop-at.invariant (omega arith))
 
 pub loop-at-preserved : goal.loop-at-preserved
-loop-at-preserved c = let p = c.put-at.ensures in fill-next c.loop-at.invariant c.requires.booted.0 (omega arith) c.takes-k.ensures p.value p.out_after c.after-r.ensures
+loop-at-preserved c = let p = c.put-at.ensures in fill-next c.loop-at.invariant c.args.file.booted (omega arith) c.takes-k.ensures p.value p.out_after c.after-r.ensures
 
 pub shape_of-out : goal.shape_of-out
 shape_of-out c = c.loop-at.invariant.as_long

@@ -5,19 +5,19 @@ use native.Mathlib.Omega.{arith}
 use Rattle.find.proofs.walk.judged.Goals as goal
 
 pub overflow_mul-at : goal.overflow_mul-at
-overflow_mul-at c = let p = c.requires in omega (arith, start_small p.booted _ p.le_r.0 p.le_r.1)
+overflow_mul-at c = let p = c.requires in omega (arith, start_small c.args.file.booted _ p.0 p.1)
 
 pub slice_bounds-judge-count : goal.slice_bounds-judge-count
-slice_bounds-judge-count c = let p = c.requires in omega (arith, record-in p.booted _ p.le_r.0 p.le_r.1)
+slice_bounds-judge-count c = let p = c.requires in omega (arith, record-in c.args.file.booted _ p.0 p.1)
 
 pub slice_bounds-judge-start : goal.slice_bounds-judge-start
-slice_bounds-judge-start c = let p = c.requires in omega (arith, record-in p.booted _ p.le_r.0 p.le_r.1)
+slice_bounds-judge-start c = let p = c.requires in omega (arith, record-in c.args.file.booted _ p.0 p.1)
 
 pub overflow_add-head : goal.overflow_add-head
-overflow_add-head c = let k = keeps-lengths (sym c.judge-j.ensures ∙ c.in-Keeps.is) in omega (arith, k.head_small, k.rest_small)
+overflow_add-head c = let k = keeps-lengths (sym c.judge-j.ensures ∙ c.in-Ok.is) in omega (arith, k.head_small, k.rest_small)
 
-pub returns-in-Breaks : goal.returns-in-Breaks
-returns-in-Breaks c = let p = c.requires in takes-broken p.booted _ p.le_r.0 p.le_r.1 (sym c.judge-j.ensures ∙ c.in-Breaks.is)
+pub returns-in-Err : goal.returns-in-Err
+returns-in-Err c = let p = c.requires in takes-broken c.args.file.booted _ p.0 p.1 (sym c.judge-j.ensures ∙ c.in-Err.is)
 
-pub returns-in-Keeps : goal.returns-in-Keeps
-returns-in-Keeps c = let p = c.requires in takes-kept p.booted _ p.le_r.0 p.le_r.1 (sym c.judge-j.ensures ∙ c.in-Keeps.is) c.records_for.ensures
+pub returns-in-Ok : goal.returns-in-Ok
+returns-in-Ok c = let p = c.requires in takes-kept c.args.file.booted _ p.0 p.1 (sym c.judge-j.ensures ∙ c.in-Ok.is) c.records_for.ensures

@@ -1,8 +1,5 @@
 use Rattle.gaps.proofs.Left.{held_none}
 use Rattle.gaps.proofs.walk.walk.Goals as goal
 
-pub none_left-requires : goal.none_left-requires
-none_left-requires c = (c.requires.decoded, c.mark.ensures c.if-mark.true)
-
 pub none_left-requires-2 : goal.none_left-requires-2
 none_left-requires-2 c = (c.requires.decoded, held_none _ _)

@@ -5,21 +5,16 @@ use Rattle.entries.proofs.Rows.{runs-low, fits-same}
 use Rattle.index.proofs.Laying.{shows-row}
 use Rattle.index.proofs.lay.lay_old.Goals as goal
 
-pub fill-requires : goal.fill-requires
-fill-requires c =
-    let d = c.requires.decoded in
-    record { booted = d.booted; u_in_bounds = (d.wide, d.most); runs = d.runs }
-
 pub lay_rest-requires : goal.lay_rest-requires
 lay_rest-requires c =
     let g = c.fill in
     let d = c.requires.decoded in
     let m = d.most in
-    record { ranged = d.booted.ranged; u_in_bounds = (omega (arith, g.auto.row, d.wide), m, fits-same _ (row_run _) (run_of _ c.args.z) _ g.ensures.run _ m c.requires.fits); reach = (c.requires.reach.0, shows-row (run_of _ c.args.z) (row_run _) _ (λ t a b. sym (g.ensures.run t a (omega arith))) _ _ c.requires.reach.1) }
+    record { ranged = d.booted.ranged; u_in_bounds = (omega (arith, g.auto.row, d.wide), m, fits-same _ (row_run _) (run_of _ c.args.file.z) _ g.ensures.run _ m c.requires.fits); reach = (c.requires.reach.0, shows-row (run_of _ c.args.file.z) (row_run _) _ (λ t a b. sym (g.ensures.run t a (omega arith))) _ _ c.requires.reach.1) }
 
 pub returns : goal.returns
 returns c =
-    let z = c.args.z in
+    let z = c.args.file.z in
     let g = c.fill.ensures in
     let l = c.lay_rest.ensures in
     let m = l.upper_bound.0 in

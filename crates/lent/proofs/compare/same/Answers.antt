@@ -14,13 +14,11 @@ pub loop-i-preserved : goal.loop-i-preserved
 loop-i-preserved c =
     let s = c.args in
     let l = c.loop-i in
-    let next : Bool = same (drop (l.i + 1) s.a.now) (drop (l.i + 1) s.b.now) in (
-      omega arith,
-      elim c.if-a-i.branch [
-        | then-a-i w ↦ l.invariant.1 ∙ ap (also l.ok) (same_stop s.a.now s.b.now l.i (omega arith) (omega arith) (λ e. omega arith)) ∙ also-false l.ok ∙ ap (λ (t : Bool). also t next) (sym w.ok-is)
-        | else-a-i w ↦ l.invariant.1 ∙ ap (also l.ok) (same_step s.a.now s.b.now l.i (omega arith) (omega arith) (omega arith)) ∙ ap (λ (t : Bool). also t next) (sym w.ok-is)
-      ],
-    )
+    let next : Bool = same (drop (l.i + 1) s.a.now) (drop (l.i + 1) s.b.now) in
+    elim c.if-a-i.branch [
+      | then-a-i w ↦ l.invariant ∙ ap (also l.ok) (same_stop s.a.now s.b.now l.i (omega arith) (omega arith) (λ e. omega arith)) ∙ also-false l.ok ∙ ap (λ (t : Bool). also t next) (sym w.ok-is)
+      | else-a-i w ↦ l.invariant ∙ ap (also l.ok) (same_step s.a.now s.b.now l.i (omega arith) (omega arith) (omega arith)) ∙ ap (λ (t : Bool). also t next) (sym w.ok-is)
+    ]
 
 pub returns : goal.returns
-returns c = let s = c.args in let l = c.loop-i in sym (l.invariant.1 ∙ ap (also l.ok) (same_end s.a.now s.b.now l.i (omega arith) (omega arith)) ∙ also-unit l.ok)
+returns c = let s = c.args in let l = c.loop-i in sym (l.invariant ∙ ap (also l.ok) (same_end s.a.now s.b.now l.i (omega arith) (omega arith)) ∙ also-unit l.ok)

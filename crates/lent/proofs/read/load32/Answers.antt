@@ -1,4 +1,4 @@
--- `lent::read::load32`: the four bytes, times the powers of 256.
+-- `lent::read::load32`: the four bytes.
 use Rattle.std.proofs.Common.{arith}
 use Rattle.lent.proofs.Numbers.{number-four}
 use Rattle.lent.proofs.read.load32.Goals as goal

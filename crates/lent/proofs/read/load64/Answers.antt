@@ -1,7 +1,7 @@
--- `lent::read::load64`: two halves.
+-- `lent::read::load64`: the eight bytes.
 use Rattle.std.proofs.Common.{arith}
-use Rattle.lent.proofs.Numbers.{number-join}
+use Rattle.lent.proofs.Numbers.{number-eight}
 use Rattle.lent.proofs.read.load64.Goals as goal
 
 pub returns : goal.returns
-returns c = let a = c.args in omega (arith, number-join 4 4 a.s.now a.at)
+returns c = let a = c.args in omega (arith, number-eight a.s.now a.at)

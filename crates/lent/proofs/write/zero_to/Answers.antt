@@ -1,7 +1,9 @@
--- `lent::write::zero_to`: the part that was lent to `zero` holds zeros, and all else is as it was.
+-- `lent::write::zero_to`: the part that was filled holds zeros, and all else is as it was.
 use Rattle.std.proofs.Common.{◌+◌, arith}
+use Rattle.lent.specs.Write.{zeros}
 use Rattle.lent.proofs.Writes.{put-zeros}
 use Rattle.lent.proofs.write.zero_to.Goals as goal
 
 pub returns : goal.returns
-returns c = let a = c.args in put-zeros (a.at + a.n) _ _ _ _ c.zero.ensures (omega arith) (omega arith)
+unfolding zeros
+returns c = let a = c.args in put-zeros (a.at + a.n) _ _ _ _ (c.fill.ensures.after (λ y e. e)) (omega arith) (omega arith)

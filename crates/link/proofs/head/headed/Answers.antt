@@ -1,5 +1,5 @@
-use mathlib.Core.Path.{◌≡◌, refl, ap}
-use Rattle.link.proofs.Pieces.{head-room, headed-is}
+use mathlib.Core.Path.{◌≡◌, ap}
+use Rattle.link.proofs.Pieces.{head-room}
 use Rattle.lent.proofs.Parts.{length-part-min}
 use lib.ListN.{length}
 use native.Mathlib.Omega.{arith}
@@ -11,6 +11,3 @@ copy_to-requires c = let p = c.requires in let k = c.args.k in let q = c.args.pi
 
 pub overflow_add-came : goal.overflow_add-came
 overflow_add-came c = let p = c.requires in let k = c.args.k in let q = c.args.piece.now in omega (arith, p.0, p.1, head-room k q (omega (arith, p.0, p.1)))
-
-pub returns : goal.returns
-returns c = let p = c.requires in headed-is _ _ _ _ _ _ _ p.0 p.1 c.copy_to.ensures c.part.ensures.bytes refl c.index_end-ends.ensures

@@ -11,9 +11,3 @@ returns-then-k-lt512 c = sym (finish-short _ _ (omega arith) (omega arith))
 
 pub returns-then-k-lt32 : goal.returns-then-k-lt32
 returns-then-k-lt32 c = sym (finish-early _ _ (omega arith) (omega arith) (omega arith))
-
-pub booted-requires : goal.booted-requires
-booted-requires c = (omega arith, omega arith, omega arith)
-
-pub returns : goal.returns
-returns c = c.booted.ensures

@@ -14,9 +14,9 @@ slice_bounds-write_out-end g c = sym (length-take-le _ _ (text-within _ _ _ _ c.
 pub returns-in_err-write_out-clause-part : goal.returns-in_err-write_out-clause-part
 returns-in_err-write_out-clause-part g c =
     let long : length c.fill-got.new.room ≡ 65537 = omega (arith, c.fill-got.auto.room) in
-    part-printed _ _ _ _ _ _ _ _ _ long c.in-Read.ensures.bytes c.printed-k.ensures.size c.printed-k.ensures.bytes c.in_err-write_out.ensures.part
+    part-printed _ _ _ _ _ _ _ _ _ long c.in-Some.ensures.bytes c.printed-k.ensures.size c.printed-k.ensures.bytes c.in_err-write_out.ensures.part
 
 pub returns-clause-all : goal.returns-clause-all
 returns-clause-all g c = λ _.
     let long : length c.fill-got.new.room ≡ 65537 = omega (arith, c.fill-got.auto.room) in
-    all-printed _ _ _ _ _ _ _ _ long c.in-Read.ensures.bytes c.printed-k.ensures.size c.printed-k.ensures.bytes c.in_ok-write_out.ensures.all
+    all-printed _ _ _ _ _ _ _ _ long c.in-Some.ensures.bytes c.printed-k.ensures.size c.printed-k.ensures.bytes c.in_ok-write_out.ensures.all

@@ -1,6 +1,5 @@
 -- `listing::shell::told`: an error is a failure, any other answer a count.
-use Rattle.std.proofs.Common.{refl, ap}
-use Rattle.listing.specs.declared.shell.Input.TheVariants.{Read}
+use Rattle.std.proofs.Common.{refl, ap, Some}
 use Rattle.listing.specs.Input.{input_of}
 use Rattle.listing.proofs.shell.told.Goals as goal
 
@@ -10,4 +9,4 @@ returns-in_default c = rw c.in_default.is refl
 
 pub returns : goal.returns
 unfolding input_of
-returns c = rw c.in-Ok.is (ap Read c.min.ensures)
+returns c = rw c.in-Ok.is (ap Some c.min.ensures)

@@ -24,5 +24,5 @@ returns c =
     (to_z-of_z {w = w16} (record { sfits = c.position.type_inv }) ∙ c.position.ensures)
     (to_z-of_z {w = w16} (record { sfits = c.magic.type_inv }) ∙ c.magic.ensures)
     (c.kind.ensures
-    ∙ kind-same c.word16-mode.ensures (c.single.ensures ∙ ap (of_bits binary32) c.word32-field4.ensures) (c.double.ensures ∙ ap (of_bits binary64) c.word64-field8.ensures)
+    ∙ kind-same c.word16-mode.ensures (c.f32_from_bits_with_nan.ensures ∙ ap (of_bits binary32) c.word32-field4.ensures) (c.f64_from_bits_with_nan.ensures ∙ ap (of_bits binary64) c.word64-field8.ensures)
     ∙ kind-bits _ _ _)

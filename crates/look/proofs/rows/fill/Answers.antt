@@ -1,4 +1,4 @@
-use Rattle.look.proofs.Putting.{put-begins, put_keeps, put-ends, next-room, next-put}
+use Rattle.look.proofs.Putting.{put-begins, next-room, next-put}
 use Rattle.look.specs.Rows.{row_of}
 use Rattle.paper.specs.Index.{row_run}
 use Prim.Native.Nat.{◌-◌, ◌*◌, ◌+◌}
@@ -6,7 +6,7 @@ use native.Mathlib.Omega.{arith}
 use Rattle.look.proofs.rows.fill.Goals as goal
 
 pub loop-i-init : goal.loop-i-init
-loop-i-init c = let a = c.args in (omega arith, put-begins row_of (row_run a.row.now) a.out.now 0 a.u (omega arith))
+loop-i-init c = let a = c.args in put-begins row_of (row_run a.row.now) a.out.now 0 a.u (omega arith)
 
 pub put_row-at-requires : goal.put_row-at-requires
 unfolding row_run
@@ -18,14 +18,8 @@ put_row-at-requires c =
         first = omega (arith, c.shared_slice_known-1.given (2 * (c.loop-i.i + 1 - 1)));
         last = omega (arith, c.shared_slice_known-1.given (2 * (c.loop-i.i + 1 - 1) + 1));
       });
-      a_in_bounds = next-room row_of (row_run a.row.now) a.out.now 0 a.u (omega arith) _ c.loop-i.invariant.1 (omega arith) c.run_in-a.ensures;
+      a_in_bounds = next-room row_of (row_run a.row.now) a.out.now 0 a.u (omega arith) _ c.loop-i.invariant (omega arith) c.run_in-a.ensures;
     }
 
 pub loop-i-preserved : goal.loop-i-preserved
-loop-i-preserved c = let a = c.args in (omega arith, next-put row_of (row_run a.row.now) a.out.now 0 a.u (omega arith) _ c.loop-i.invariant.1 (omega arith) c.run_in-a.ensures c.put_row-at.ensures)
-
-pub shape_of-out : goal.shape_of-out
-shape_of-out c = let a = c.args in put_keeps row_of (row_run a.row.now) a.out.now 0 a.u (omega arith) _ c.loop-i.invariant.1 (omega arith)
-
-pub returns : goal.returns
-returns c = let a = c.args in (put-ends row_of (row_run a.row.now) a.out.now 0 a.u (omega arith) _ c.loop-i.invariant.1 (omega arith) (omega arith)).holds
+loop-i-preserved c = let a = c.args in next-put row_of (row_run a.row.now) a.out.now 0 a.u (omega arith) _ c.loop-i.invariant (omega arith) c.run_in-a.ensures c.put_row-at.ensures

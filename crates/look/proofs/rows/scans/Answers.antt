@@ -9,13 +9,13 @@ use Rattle.look.proofs.rows.scans.Goals as goal
 
 pub loop-i-init : goal.loop-i-init
 unfolding those
-loop-i-init c = (omega arith, refl)
+loop-i-init c = refl
 
 pub next-n-requires : goal.next-n-requires
 next-n-requires c = omega (arith, length-those (full (row_run c.args.row.now)) c.loop-i.i)
 
 pub loop-i-preserved : goal.loop-i-preserved
-loop-i-preserved c = (omega arith, count_next (row_run c.args.row.now) _ _ _ c.loop-i.invariant.1 c.run_in-a.ensures c.next-n.ensures)
+loop-i-preserved c = count_next (row_run c.args.row.now) _ _ _ c.loop-i.invariant c.run_in-a.ensures c.next-n.ensures
 
 pub returns : goal.returns
-returns c = count-ends (row_run c.args.row.now) _ _ _ c.loop-i.invariant.1 (omega arith) (omega arith) (omega arith)
+returns c = count-ends (row_run c.args.row.now) _ _ _ c.loop-i.invariant (omega arith) (omega arith) (omega arith)

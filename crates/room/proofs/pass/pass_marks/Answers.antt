@@ -1,6 +1,5 @@
 use Rattle.room.proofs.Freeing.{blocked-then}
 use Rattle.marks.proofs.Passing.{blocked-none}
-use native.Mathlib.Omega.{arith}
 use Rattle.room.proofs.pass.pass_marks.Goals as goal
 
 pub returns-then-room-k : goal.returns-then-room-k
@@ -9,14 +8,5 @@ returns-then-room-k c = blocked-none _ _ _
 pub loop-i-init : goal.loop-i-init
 loop-i-init c = blocked-none _ _ _
 
-pub returns-then-j-i : goal.returns-then-j-i
-returns-then-j-i c = c.loop-i.invariant
-
-pub loop-i-smaller : goal.loop-i-smaller
-loop-i-smaller c = omega arith
-
 pub loop-i-preserved : goal.loop-i-preserved
 loop-i-preserved c = blocked-then _ _ _ _ _ c.loop-i.invariant c.past-j.ensures
-
-pub returns : goal.returns
-returns c = c.loop-i.invariant

@@ -1,4 +1,4 @@
--- `scan::preamble::each_greater`: the first k pairs are in order; a pair that is not ends it.
+-- `scan::preamble::each_greater`: the first k - 1 pairs are in order; a pair that is not ends it.
 use Prim.Native.Nat.{ℕ, ◌+◌, ◌-◌, ◌≤◌}
 use mathlib.Core.Path.{◌≡◌}
 use mathlib.Core.Bool.{Bool, true}
@@ -13,7 +13,4 @@ abbrev pub order : List ℤ → ℕ → Bool
 order starts k = lt_z (get_or starts k (pos 0)) (get_or starts (k + 1) (pos 0))
 
 abbrev pub invariant-loop-k : goal.invariant-loop-k
-invariant-loop-k l = (l.k ≤ l.n - 1) × (every l.k (order l.starts) ≡ true)
-
-abbrev pub decreases-loop-k : goal.decreases-loop-k
-decreases-loop-k l = l.n - l.k
+invariant-loop-k l = (l.k - 1 ≤ l.n - 1) × (every (l.k - 1) (order l.starts) ≡ true)

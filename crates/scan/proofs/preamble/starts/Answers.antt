@@ -19,11 +19,11 @@ loop-k-preserved c =
     let at = c.loop-k in
     let s = c.args.s.now in
     let e = same16 c.load_int16.result c.load_int16.type_inv ∙ c.load_int16.ensures in
-    (omega arith, simp length-set at.invariant.1, fill_more at.a at.k _ (start s) (omega arith) e at.invariant.2)
+    (simp length-set at.invariant.0, fill_more at.a at.k _ (start s) (omega arith) e at.invariant.1)
 
 pub returns : goal.returns
 unfolding starts_of
 returns c =
     let at = c.loop-k in
     let e : at.k ≡ 15 = omega arith in
-    filled at.a 15 (start c.args.s.now) (omega arith) (rw e at at.invariant.2)
+    filled at.a 15 (start c.args.s.now) (omega arith) (rw e at at.invariant.1)

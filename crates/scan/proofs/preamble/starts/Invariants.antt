@@ -1,6 +1,6 @@
 -- `scan::preamble::starts`: after k turns the first k starts stand in the array.
 -- start k + 1
-use Prim.Native.Nat.{ℕ, ◌+◌, ◌-◌, ◌*◌, ◌≤◌}
+use Prim.Native.Nat.{ℕ, ◌+◌, ◌*◌}
 use mathlib.Core.Path.{◌≡◌}
 use mathlib.Core.List.{List}
 use lib.IntN.{ℤ}
@@ -13,7 +13,4 @@ abbrev pub start : List ℕ → ℕ → ℤ
 start s k = int16 (be16 s (2 + 2 * k))
 
 abbrev pub invariant-loop-k : goal.invariant-loop-k
-invariant-loop-k l = (l.k ≤ 15) × (length l.a ≡ 15) × (take l.k l.a ≡ table l.k (start l.s))
-
-abbrev pub decreases-loop-k : goal.decreases-loop-k
-decreases-loop-k l = 15 - l.k
+invariant-loop-k l = (length l.a ≡ 15) × (take l.k l.a ≡ table l.k (start l.s))

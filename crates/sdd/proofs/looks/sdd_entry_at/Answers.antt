@@ -1,19 +1,15 @@
-use mir.Syntax.{w16}
-use mir.Facts.{to_z-of_z}
+use mathlib.Core.Path.{sym, ap, ◌∙◌, subst}
+use Rattle.paper.specs.Answers.{Found, taken_in}
 use Rattle.paper.specs.Look.{found_of}
+use Rattle.sdd.specs.Face.{found_c, TakenSmall}
 use Rattle.sdd.proofs.Small.{found-small}
-use Rattle.sdd.proofs.Through.{taken-small, found-face}
-use mir.Syntax.{w16}
+use Rattle.sdd.proofs.Through.{found-is}
 use Rattle.sdd.proofs.looks.sdd_entry_at.Goals as goal
 
-pub taken-requires : goal.taken-requires
-taken-requires c = taken-small c.entry-f.result.answer (found_of c.args.file.now c.args.slot).answer c.entry-f.ensures.answer (found-small c.args.file.now c.args.slot)
+pub found-requires : goal.found-requires
+found-requires c =
+    let e = found-is c.entry.result (found_of c.args.file.now c.args.slot) c.entry.ensures.answer c.entry.ensures.fields in
+    subst (λ (x : Found). TakenSmall (taken_in x)) (sym e) (found-small c.args.file.now c.args.slot)
 
 pub returns : goal.returns
-returns c =
-    let mode = to_z-of_z {w = w16} {z = c.entry-f.result.entry.mode} (record { sfits = c.struct_told-1.given.1.1.1.1.1.1.1.1.1.1.0.1 }) in
-    let number = to_z-of_z {w = w16} {z = c.entry-f.result.entry.number} (record { sfits = c.struct_told-1.given.1.1.1.1.1.1.1.1.1.1.1.0.1 }) in
-    let position = to_z-of_z {w = w16} {z = c.entry-f.result.entry.position} (record { sfits = c.struct_told-1.given.1.1.1.1.1.1.1.1.1.1.1.1.0.1 }) in
-    let magic = to_z-of_z {w = w16} {z = c.entry-f.result.entry.magic} (record { sfits = c.struct_told-1.given.1.1.1.1.1.1.1.1.1.1.1.1.1.0.1 }) in
-    rw (mode, number, position, magic, c.taken.ensures, c.number.ensures, c.single.ensures, c.double.ensures)
-    (found-face c.entry-f.result (found_of c.args.file.now c.args.slot) c.entry-f.ensures.answer c.entry-f.ensures.fields)
+returns c = c.found.ensures ∙ ap found_c (found-is c.entry.result (found_of c.args.file.now c.args.slot) c.entry.ensures.answer c.entry.ensures.fields)

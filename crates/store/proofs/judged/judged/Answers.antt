@@ -1,3 +1,4 @@
+use Rattle.lent.proofs.Checks.{passed-on}
 use Rattle.store.proofs.Rooms.{rowing}
 use Rattle.store.proofs.Starting.{goal-out}
 use mathlib.Core.Path.{sym, ◌∙◌}
@@ -5,14 +6,10 @@ use Rattle.paper.proofs.Opening.{change-index}
 use native.Mathlib.Omega.{arith}
 use Rattle.store.proofs.judged.judged.Goals as goal
 
-pub judge_lent-o-requires : goal.judge_lent-o-requires
-judge_lent-o-requires c = record { booted = c.requires.headed.booted; u_in_bounds = c.requires.u_in_bounds; reach = c.requires.reach }
+pub returns-in_err-judge_lent : goal.returns-in_err-judge_lent
+returns-in_err-judge_lent c =
+    passed-on _ c.from_residual.ensures.1
+    ∙ goal-out _ c.args.goal _ _ (change-index c.args.file.now c.requires.headed.may ∙ sym c.judge_lent.ensures.is ∙ c.in_err-judge_lent.was)
 
-pub returns-in_default : goal.returns-in_default
-returns-in_default c = let a = c.args in let l = c.judge_lent-o.ensures in goal-out a.file.now a.goal a.scan.now a.about _ (l.is ∙ sym (change-index a.file.now c.requires.headed.may)) _ _ c.in_default.is c.handed_on.ensures
-
-pub goes-requires : goal.goes-requires
-goes-requires c = let j = c.judge_lent-o in rowing c.args.file.now _ _ c.args.z _ _ c.requires.headed.may j.ensures c.in-Opens.is (omega (arith, j.auto.marks, c.requires.u_in_bounds))
-
-pub returns : goal.returns
-returns c = c.goes.ensures
+pub invariant_of-rowed : goal.invariant_of-rowed
+invariant_of-rowed c = let j = c.judge_lent in rowing c.args.file.now _ _ c.args.z _ _ c.requires.headed.may j.ensures c.in_ok-judge_lent.was (omega (arith, j.auto.marks, c.requires.u_in_bounds))

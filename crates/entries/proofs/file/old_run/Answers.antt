@@ -1,0 +1,18 @@
+use Rattle.entries.proofs.Rows.{old-word, not_negative}
+use mathlib.Core.Path.{refl}
+use native.Mathlib.Omega.{arith}
+use Rattle.entries.proofs.file.old_run.Goals as goal
+
+pub returns-then-b-a : goal.returns-then-b-a
+returns-then-b-a c =
+    record {
+      first = old-word _ _ 0 _ _ _ c.spread.ensures.0 _ (omega arith) c.load16-a.ensures refl;
+      last = old-word _ _ 1 _ _ _ c.spread.ensures.1 _ (omega arith) c.load16-b.ensures refl;
+    }
+
+pub returns : goal.returns
+returns c =
+    record {
+      first = old-word _ _ 0 _ _ _ (not_negative _ (omega arith)) _ (omega arith) c.load16-a.ensures refl;
+      last = old-word _ _ 1 _ _ _ (not_negative _ (omega arith)) _ (omega arith) c.load16-b.ensures refl;
+    }

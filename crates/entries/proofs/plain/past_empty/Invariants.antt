@@ -1,9 +1,0 @@
-use Rattle.entries.specs.Row.{Bare}
-use Prim.Native.Nat.{◌≤◌, ◌-◌}
-use Rattle.entries.proofs.plain.past_empty.Given as goal
-
-abbrev pub invariant-loop-i : goal.invariant-loop-i
-invariant-loop-i l = (l.i ≤ l.to) × Bare l.file l.z l.from l.i
-
-abbrev pub decreases-loop-i : goal.decreases-loop-i
-decreases-loop-i l = l.to - l.i

@@ -1,8 +1,0 @@
-use Rattle.marks.proofs.Marking.{clear-zeros}
-use native.Mathlib.Omega.{arith}
-use Rattle.runs.proofs.marks_small.Goals as goal
-
-pub judge_marks-requires : goal.judge_marks-requires
-judge_marks-requires c =
-    let p = c.requires in
-    record { ranged = (p.0, p.1); reach = (record { long = omega arith }, clear-zeros 256) }

@@ -1,7 +1,0 @@
-use Rattle.paper.specs.declared.job.Begun.{Begun}
-use Rattle.paper.specs.Refusals.{taken_says}
-use mathlib.Core.Path.{ap}
-use Rattle.store.proofs.keep.Goals as goal
-
-pub returns : goal.returns
-returns c = record { answer_value = ap (λ (b : Begun). taken_says b.answer) c.begun.ensures; job_value = ap (λ (b : Begun). b.job) c.begun.ensures }
