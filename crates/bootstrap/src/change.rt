@@ -14,6 +14,7 @@ pub fn old(file: &[u8]) -> bool
 }
 
 // The judgement of the bootstrap of a file that is to be changed: 2 stands after 1 and before the others.
+// Two lines beside judge::boot: one function with a parameter for refusal 2 would be longer.
 pub fn boot(file: &[u8]) -> Result<Sizes, Refusal>
     ensures { result ≡ change_boot_of file.now }
 {

@@ -5,8 +5,10 @@ ghost use Rattle.lent.specs.Part.{part};
 ghost use Rattle.lent.specs.Write.{write};
 ghost use Rattle.paper.specs.Sizes.{home_of};
 ghost use Rattle.paper.specs.Convert.{carried_at};
+ghost use Rattle.convert.specs.Form.{form_number};
 ghost use Rattle.convert.specs.Going.{Told, Goes, told, old_scan, current_scan};
 
+use super::form::Form;
 use paper::sizes::Sizes;
 
 // Bytes 8 to 59, which both forms have in the same place. They go by way of an array: the compiler cannot tell that the two buffers are apart, and would copy byte by byte.
@@ -21,6 +23,7 @@ fn middle(file: &[u8], from: usize) -> [u8; 52]
 
 // A scan of a current file: "first, last, 2, position code, bytes 8 to 59". The lower halves of first and last are all of them, and the position code stands at 60 there. Each
 // number is read right before it is stored, so that the compiler copies its two bytes as one.
+// Apart from current_scan, since places, widths and order differ; what the two share is middle.
 fn old_scan(file: &[u8], at: usize, out: &mut [u8])
     requires { Told at (length file.now) (length out.old) }
     ensures { out.new ≡ write out.old at (old_scan file.now at) }
@@ -73,14 +76,13 @@ fn put_current(file: &[u8], z: Sizes, s: usize, out: &mut [u8])
     }
 }
 
-// The same in the form v.
-pub fn put_entry(file: &[u8], z: Sizes, v: usize, s: usize, out: &mut [u8])
-    requires { Goes v file.now z s (length out.old) }
-    ensures { out.new ≡ write out.old (home_of z s) (told v (carried_at file.now z s)) }
+// The same in the wanted form.
+pub fn put_entry(file: &[u8], z: Sizes, form: Form, s: usize, out: &mut [u8])
+    requires { Goes (form_number form) file.now z s (length out.old) }
+    ensures { out.new ≡ write out.old (home_of z s) (told (form_number form) (carried_at file.now z s)) }
 {
-    if v == 0 {
-        put_old(file, z, s, out);
-    } else {
-        put_current(file, z, s, out);
+    match form {
+        Form::Old => put_old(file, z, s, out),
+        Form::Current => put_current(file, z, s, out),
     }
 }

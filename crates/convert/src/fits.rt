@@ -5,8 +5,10 @@ ghost use Rattle.lent.specs.Least.{least};
 ghost use Rattle.paper.specs.Sizes.{capacity_of};
 ghost use Rattle.paper.specs.Index.{run_of, Sound};
 ghost use Rattle.paper.specs.Convert.{narrow_tests, wide_run, other_magic};
+ghost use Rattle.convert.specs.Form.{form_number};
 ghost use Rattle.convert.specs.Going.{fits_form};
 
+use super::form::Form;
 use entries::file::File;
 use paper::sizes::Run;
 
@@ -31,6 +33,7 @@ fn any_wide(file: File) -> bool
 }
 
 // The same. A run ends in the data section, so that a file of no more records is not gone through.
+// Sound is no type: four functions of this crate alone ask for it.
 fn wide(file: File) -> bool
     requires { Sound file.bytes.now file.z }
     ensures { result ≡ ltb 0 (least (wide_run (run_of file.entry.bytes.now file.entry.z)) file.entry.z.u) }
@@ -80,15 +83,15 @@ fn fits_current(file: File) -> bool
 }
 
 // All of 19, in its order.
-pub fn fits(file: File, v: usize) -> bool
-    requires { Sound file.bytes.now file.z × (v ≤ 1) }
-    ensures { result ≡ fits_form v file.entry.bytes.now file.entry.z }
+pub fn fits(file: File, form: Form) -> bool
+    requires { Sound file.bytes.now file.z }
+    ensures { result ≡ fits_form (form_number form) file.entry.bytes.now file.entry.z }
 {
-    if file.z.version == v || file.z.kind == 1 {
+    if file.z.version == form.number() || file.z.kind == 1 {
         return false;
     }
-    if v == 0 {
-        return fits_old(file);
+    match form {
+        Form::Old => fits_old(file),
+        Form::Current => fits_current(file),
     }
-    fits_current(file)
 }

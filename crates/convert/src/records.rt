@@ -3,8 +3,10 @@ ghost use Rattle.std.specs.Prelude.{◌≡◌, [], ◌∷◌, ◌+◌, ◌≤◌
 ghost use Rattle.lent.specs.Number.{numbers};
 ghost use Rattle.lent.specs.Write.{write, pad};
 ghost use Rattle.paper.specs.Convert.{Convertible, carried_at, boot_as, entries_as, records_as};
+ghost use Rattle.convert.specs.Form.{form_number};
 ghost use Rattle.convert.specs.Going.{Short, Heads};
 
+use super::form::Form;
 use paper::sizes::Sizes;
 
 // Three 16-bit numbers, one after the other.
@@ -29,39 +31,36 @@ fn old_bytes(z: Sizes) -> [u8; 12]
 }
 
 // Record 1: the bootstrap, with "zeros to L".
-fn put_boot(z: Sizes, v: usize, out: &mut [u8])
-    requires { Heads v z (length out.old) }
-    ensures { out.new ≡ write out.old 0 (pad z.l (boot_as v z)) }
+fn put_boot(z: Sizes, form: Form, out: &mut [u8])
+    requires { Heads (form_number form) z (length out.old) }
+    ensures { out.new ≡ write out.old 0 (pad z.l (boot_as (form_number form) z)) }
 {
     let l = z.l;
-    if v == 0 {
-        let b = old_bytes(z);
-        lent::write::put_padded(out, 0, l, &b);
-    } else {
-        let b = writes::boot::boot_bytes(z);
-        lent::write::put_padded(out, 0, l, &b);
+    match form {
+        Form::Old => lent::write::put_padded(out, 0, l, &old_bytes(z)),
+        Form::Current => lent::write::put_padded(out, 0, l, &writes::boot::boot_bytes(z)),
     }
 }
 
 // The entries of the slots in use: zeros, and over them what each entry says.
-fn put_entries(file: &[u8], z: Sizes, v: usize, out: &mut [u8])
-    requires { Convertible v file.now out.old z × (v ≤ 1) }
-    ensures { out.new ≡ write out.old z.l (entries_as v z.m (carried_at file.now z) z.u) }
+fn put_entries(file: &[u8], z: Sizes, form: Form, out: &mut [u8])
+    requires { Convertible (form_number form) file.now out.old z }
+    ensures { out.new ≡ write out.old z.l (entries_as (form_number form) z.m (carried_at file.now z) z.u) }
 {
     lent::write::zero_to(&mut *out, z.l, z.u * z.m);
     for i in 0..z.u {
-        super::entry::put_entry(file, z, v, i + 1, &mut *out);
+        super::entry::put_entry(file, z, form, i + 1, &mut *out);
     }
 }
 
 // All of it: the second buffer then begins with the N records.
-pub fn put_records(file: &[u8], z: Sizes, v: usize, out: &mut [u8])
-    requires { Convertible v file.now out.old z × (v ≤ 1) }
-    ensures { out.new ≡ write out.old 0 (records_as v z (carried_at file.now z)) }
+pub fn put_records(file: &[u8], z: Sizes, form: Form, out: &mut [u8])
+    requires { Convertible (form_number form) file.now out.old z }
+    ensures { out.new ≡ write out.old 0 (records_as (form_number form) z (carried_at file.now z)) }
 {
     let cap = z.capacity();
-    put_boot(z, v, &mut *out);
-    put_entries(file, z, v, &mut *out);
+    put_boot(z, form, &mut *out);
+    put_entries(file, z, form, &mut *out);
     let above = z.l + z.u * z.m;
     lent::write::zero_to(out, above, (cap - z.u) * z.m);
 }

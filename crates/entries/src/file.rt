@@ -94,7 +94,7 @@ impl<'a> File<'a> {
         sum == 0
     }
 
-    // How far the slots above `from` are empty, four at a time: so are most of those above U.
+    // How far the slots above `from` are empty, four at a time: so are most of those above U. A `while`, since a last part of a group is not leapt over.
     pub fn past_empty(self, from: usize, to: usize) -> usize
         requires { (from ≤ to) × (to ≤ capacity_of self.z) }
         ensures { (result ≤ to) × Bare self.entry.bytes.now self.entry.z from result }

@@ -9,6 +9,7 @@ ghost use Rattle.entries.specs.Row.{InRow, Stated, Runs};
 use super::file::File;
 use paper::sizes::Run;
 
+// The number and its bound in one fact, as in lent.
 pub fn wide(x: u32) -> usize
     ensures { Plain x 4294967296 result }
 {

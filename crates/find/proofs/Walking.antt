@@ -1,5 +1,7 @@
 -- The laws of the walk: what a turn finds, where it goes on, and what the two walks have when they end.
-use Rattle.std.specs.Prelude.{Ok, Err}
+use Rattle.std.specs.Prelude.{Result, Ok, Err, Option, Some, None}
+use Rattle.std.specs.Option.{is_some}
+use Rattle.std.specs.Result.{result_ok}
 use Prim.Native.Nat.{ℕ, zero, suc, ◌+◌, ◌-◌, ◌*◌, ◌≤◌, ◌<◌}
 use mathlib.Core.Path.{◌≡◌, refl, sym, ◌∙◌, ap}
 use mathlib.Core.Bool.{Bool, true, false, cond}
@@ -8,16 +10,20 @@ use mathlib.Core.Logic.{⊎_elim}
 use native.Mathlib.Omega.{arith}
 use native.Mathlib.Nat.{add-zero}
 use native.Mathlib.Numerals.{add-one}
+use mir.Val.{bool_byte}
 use lib.Dec.{ltb}
 use lib.IntN.{pos, negsuc}
 use lib.ListN.{length, set, length-append}
 use Rattle.lent.specs.Number.{big, be16, be64, int16}
 use Rattle.lent.specs.Lists.{threes}
+use Rattle.lent.specs.Least.{some_number}
 use Rattle.lent.specs.Write.{write}
 use Rattle.lent.proofs.Lists.{true≢false, lt-or-ge, length-threes, threes-append}
 use Rattle.lent.proofs.Numbers.{number-part}
+use Rattle.lent.proofs.Founds.{found}
 use Rattle.lent.proofs.Writes.{write-nothing, write-next, length-write, stored}
 use Rattle.paper.specs.declared.sizes.Sizes.{Sizes}
+use Rattle.paper.specs.Answers.{Ruled}
 use Rattle.paper.specs.Sizes.{start_of, bytes_of}
 use Rattle.paper.specs.Index.{Booted}
 use Rattle.paper.specs.Entry.{natural_of}
@@ -25,61 +31,67 @@ use Rattle.paper.specs.Scan.{classes_of, rule2, ruled_of, Rule2}
 use Rattle.paper.specs.Store.{records_for}
 use Rattle.paper.specs.Find.{Find, rest_from, takes, takes_at, find_from, find_of, find_lines}
 use Rattle.paper.proofs.Sizing.{less, times, bytes_small}
-use Rattle.paper.proofs.Rules.{facts-rule2}
-use Rattle.paper.proofs.Finding.{find-from, from_past, from-broken, from_found, classes-none, takes-within}
+use Rattle.paper.proofs.Rules.{facts-rule2, kept}
+use Rattle.paper.proofs.Writes.{some-record}
+use Rattle.paper.proofs.Finding.{find-from, from_past, from-broken, from_found, classes-none, takes-within, head-some}
 use Rattle.find.specs.Walk.{one_if, after_of, finds_at, Counted, Filled}
 
 -- ---- a turn
 
--- a test for 0 and its two answers
-pub one_none : (n k : ℕ) → k ≡ 0 → n ≡ n + one_if k
-one_none n zero e = sym (add-zero n)
-one_none n (suc k) e = absurd (omega arith)
+-- what a walk adds to its count
+pub one-is : (k : Option ℕ) → bool_byte (is_some k) ≡ one_if k
+one-is None = refl
+one-is (Some k) = refl
 
-pub one-some : (n k : ℕ) → (k ≡ 0 → ⊥) → n + 1 ≡ n + one_if k
-one-some n zero ne = absurd (ne refl)
-one-some n (suc k) ne = refl
+-- it goes on, at least by what it found, and past the scan, which has a record
+module _ (r t : ℕ) {k : Option ℕ} (e : k ≡ some_number t) where
+  on : r + one_if k ≤ after_of r k
+  on = rw e (go t)
+    where
+      go : (t : ℕ) → r + one_if (some_number t) ≤ after_of r (some_number t)
+      go zero = omega arith
+      go (suc t) = omega arith
 
-pub after_none : (r k : ℕ) → k ≡ 0 → r + 1 ≡ after_of r k
-after_none r zero e = refl
-after_none r (suc k) e = absurd (omega arith)
+  pub further : r < after_of r k
+  further = rw e (go t)
+    where
+      go : (t : ℕ) → r < after_of r (some_number t)
+      go zero = omega arith
+      go (suc t) = omega arith
 
-pub after-some : (r k : ℕ) → (k ≡ 0 → ⊥) → r + k ≡ after_of r k
-after-some r zero ne = absurd (ne refl)
-after-some r (suc k) ne = refl
-
--- it goes on, at least by what it found, and past the scan
-on : (r k : ℕ) → r + one_if k ≤ after_of r k
-on r zero = omega arith
-on r (suc k) = omega arith
-
-pub further : (r k : ℕ) → r < after_of r k
-further r zero = omega arith
-further r (suc k) = omega arith
-
-pub no-further : (r k most : ℕ) → r ≤ most → k ≤ most + 1 - r → after_of r k ≤ most + 1
-no-further r zero most h l = omega arith
-no-further r (suc k) most h l = omega arith
+  pub no-further : (most : ℕ) → r ≤ most → t ≤ most + 1 - r → after_of r k ≤ most + 1
+  no-further most h = rw e (go t)
+    where
+      go : (t : ℕ) → t ≤ most + 1 - r → after_of r (some_number t) ≤ most + 1
+      go zero l = omega arith
+      go (suc t) l = omega arith
 
 module _ (f : List ℕ) (z : Sizes) (r : ℕ) where
   -- what is found from a record on is what is found there, and then what is found after it
-  pub from_next : r ≤ z.n + z.d → find_from f z r ≡ finds_at f z r (takes_at f z r) ++ find_from f z (after_of r (takes_at f z r))
-  from_next h = go (takes_at f z r) refl
+  pub from_next : {k : Option ℕ} → k ≡ some_number (takes_at f z r) → r ≤ z.n + z.d → find_from f z r ≡ finds_at f z r k ++ find_from f z (after_of r k)
+  from_next e h = rw e (go (takes_at f z r) refl)
     where
-      go : (k : ℕ) → takes_at f z r ≡ k → find_from f z r ≡ finds_at f z r k ++ find_from f z (after_of r k)
-      go zero e = from-broken f z r h e
-      go (suc k) e = from_found f z r k h e
+      go : (t : ℕ) → takes_at f z r ≡ t → find_from f z r ≡ finds_at f z r (some_number t) ++ find_from f z (after_of r (some_number t))
+      go zero q = from-broken f z r h q
+      go (suc t) q =
+          let l : r + suc t - 1 ≡ r + t = omega arith in
+          rw l (from_found f z r t h q)
 
-  finds-one : (k : ℕ) → length (finds_at f z r k) ≡ one_if k
-  finds-one zero = refl
-  finds-one (suc k) = refl
+  finds-one : (k : Option ℕ) → length (finds_at f z r k) ≡ one_if k
+  finds-one None = refl
+  finds-one (Some k) = refl
 
-  pub lines_next : r ≤ z.n + z.d → find_lines (find_from f z r) ≡ find_lines (finds_at f z r (takes_at f z r)) ++ find_lines (find_from f z (after_of r (takes_at f z r)))
-  lines_next h =
-      ap find_lines (from_next h)
-      ∙ threes-append (λ (x : Find). x.first) (λ (x : Find). x.last) (λ (x : Find). x.scan) (finds_at f z r (takes_at f z r)) (find_from f z (after_of r (takes_at f z r)))
+  pub lines_next : {k : Option ℕ} → k ≡ some_number (takes_at f z r) → r ≤ z.n + z.d → find_lines (find_from f z r) ≡ find_lines (finds_at f z r k) ++ find_lines (find_from f z (after_of r k))
+  lines_next {k} e h =
+      ap find_lines (from_next e h)
+      ∙ threes-append (λ (x : Find). x.first) (λ (x : Find). x.last) (λ (x : Find). x.scan) (finds_at f z r k) (find_from f z (after_of r k))
 
 -- ---- the rules over the run from a record on
+
+-- what is handed on was kept
+pub was-ok : {A E : Type 0} (x : Result A E) {a : A} → result_ok x ≡ Some a → x ≡ Ok a
+was-ok (Ok b) e = cc
+was-ok (Err n) e = absurd cc
 
 module _ {f : List ℕ} {z : Sizes} (B : Booted f z) (r : ℕ) (low : 1 ≤ r) (high : r ≤ z.n + z.d) where
   -- the record lies in the data section, and its bytes' numbers are small
@@ -89,8 +101,8 @@ module _ {f : List ℕ} {z : Sizes} (B : Booted f z) (r : ℕ) (low : 1 ≤ r) (
   pub start_small : start_of z r + z.l ≤ 4096000000
   start_small = omega (arith, record-in, bytes_small z B.ranged)
 
-  pub takes-few : takes_at f z r ≤ 1000000
-  takes-few = omega (arith, takes-within f z r B low high, B.ranged.records)
+  pub after-few : {k : Option ℕ} → k ≡ some_number (takes_at f z r) → after_of r k ≤ 2000000
+  after-few e = omega (arith, no-further r (takes_at f z r) e (z.n + z.d) high (takes-within f z r B low high), B.ranged.records)
 
   -- two bytes are enough to tell that there is no scan: a negative number of classes counts as 0
   classes-few : (v : ℕ) → rule2 v ≡ false → Rule2 (natural_of (int16 v)) → ⊥
@@ -101,19 +113,26 @@ module _ {f : List ℕ} {z : Sizes} (B : Booted f z) (r : ℕ) (low : 1 ≤ r) (
       go true h q = true≢false (facts-rule2 v q) e
       go false h q = omega arith
 
-  pub takes-classes : {n : ℕ} → n ≡ be16 f (start_of z r) → rule2 n ≡ false → 0 ≡ takes_at f z r
+  pub takes-classes : {n : ℕ} → n ≡ be16 f (start_of z r) → rule2 n ≡ false → None ≡ some_number (takes_at f z r)
   unfolding classes_of
   takes-classes {n} p e =
       let w : be16 (rest_from f z r) 0 ≡ n = number-part big 2 (start_of z r) (bytes_of z) f 0 (omega (arith, record-in, B.ranged.shape.l_low)) ∙ ap (be16 f) (add-zero (start_of z r)) ∙ sym p in
-      sym (classes-none f z r (λ q. classes-few n e (rw w at q)))
+      ap some_number (sym (classes-none f z r (λ q. classes-few n e (rw w at q))))
 
-  pub takes-broken : {n : ℕ} → ruled_of (rest_from f z r) false ≡ Err n → 0 ≡ takes_at f z r
+  pub takes-broken : {j : Ruled} → j ≡ ruled_of (rest_from f z r) false → result_ok j ≡ None → None ≡ some_number (takes_at f z r)
   unfolding takes_at
-  takes-broken e = sym (ap (takes z) e)
+  takes-broken {j} p e = ap some_number (go j e ∙ ap (takes z) p)
+    where
+      go : (x : Ruled) → result_ok x ≡ None → 0 ≡ takes z x
+      go (Ok x) q = absurd cc
+      go (Err n) q = refl
 
-  pub takes-kept : {head rest k : ℕ} → ruled_of (rest_from f z r) false ≡ Ok (head, rest) → k ≡ records_for z (head + rest) → k ≡ takes_at f z r
+  -- a scan has a class, so it takes a record
+  pub takes-kept : {head rest k : ℕ} → ruled_of (rest_from f z r) false ≡ Ok (head, rest) → k ≡ records_for z (head + rest) → Some k ≡ some_number (takes_at f z r)
   unfolding takes_at
-  takes-kept e q = q ∙ sym (ap (takes z) e)
+  takes-kept {head} {rest} {k} e q =
+      found k (omega (arith, q, some-record z.l (head + rest) (omega (arith, B.ranged.shape.l_low)) (omega (arith, head-some (kept e)))))
+      ∙ ap some_number (q ∙ sym (ap (takes z) e))
 
   -- "class 1's third word", by its place in the file
   pub word-is : {w : ℕ} → w ≡ be64 f (start_of z r + 48) → w ≡ be64 (rest_from f z r) 48
@@ -125,16 +144,16 @@ module _ {f : List ℕ} {z : Sizes} where
   pub count-start : {r : ℕ} → r ≡ z.n + 1 → Counted f z 0 r
   count-start e = rw e (record { past = omega arith; within = omega arith; few = omega arith; rest = omega (arith, ap length (find-from f z)) })
 
-  pub count_next : (B : Booted f z) {n m r k x : ℕ} → Counted f z n r → r ≤ z.n + z.d → k ≡ takes_at f z r → m ≡ n + one_if k → x ≡ after_of r k → Counted f z m x
-  count_next B {n} {m} {r} {k} {x} c h e p q =
+  pub count_next : (B : Booted f z) {n m r x : ℕ} {k : Option ℕ} → Counted f z n r → r ≤ z.n + z.d → k ≡ some_number (takes_at f z r) → m ≡ n + one_if k → x ≡ after_of r k → Counted f z m x
+  count_next B {n} {m} {r} {x} {k} c h e p q =
       let t = takes-within f z r B (omega (arith, c.past)) h in
-      let l = ap length (from_next f z r h) ∙ length-append (finds_at f z r (takes_at f z r)) (find_from f z (after_of r (takes_at f z r))) in
-      rw (p, q, e)
+      let l = ap length (from_next f z r e h) ∙ length-append (finds_at f z r k) (find_from f z (after_of r k)) in
+      rw (p, q)
       (record {
-        past = omega (arith, further r (takes_at f z r), c.past);
-        within = no-further r (takes_at f z r) (z.n + z.d) h t;
-        few = omega (arith, on r (takes_at f z r), c.few);
-        rest = omega (arith, l, finds-one f z r (takes_at f z r), c.rest);
+        past = omega (arith, further r (takes_at f z r) e, c.past);
+        within = no-further r (takes_at f z r) e (z.n + z.d) h t;
+        few = omega (arith, on r (takes_at f z r) e, c.few);
+        rest = omega (arith, l, finds-one f z r k, c.rest);
       })
 
   pub count-end : (B : Booted f z) {n r : ℕ} → Counted f z n r → z.n + z.d < r → (n ≡ length (find_of f z)) × (n ≤ 1000000)
@@ -144,24 +163,21 @@ module _ {f : List ℕ} {z : Sizes} where
 
 module _ (f : List ℕ) (z : Sizes) (r : ℕ) where
   -- nothing where none is found, else three numbers
-  pub put-none : (out : List ℕ) (at k : ℕ) → k ≡ 0 → (at ≡ at + length (find_lines (finds_at f z r k))) × (out ≡ write out at (find_lines (finds_at f z r k)))
+  pub put-none : (out : List ℕ) (at : ℕ) {k : Option ℕ} → k ≡ None → (at ≡ at + length (find_lines (finds_at f z r k))) × (out ≡ write out at (find_lines (finds_at f z r k)))
   unfolding threes
-  put-none out at zero e = (sym (add-zero at), sym (write-nothing out at))
-  put-none out at (suc k) e = absurd (omega arith)
+  put-none out at e = rw e (sym (add-zero at), sym (write-nothing out at))
 
-  pub put-room : (k : ℕ) → (k ≡ 0 → ⊥) → length (find_lines (finds_at f z r k)) ≡ 3
-  unfolding threes
-  put-room zero ne = absurd (ne refl)
-  put-room (suc k) ne = refl
+  module _ {o : Option ℕ} {k : ℕ} (e : o ≡ Some k) where
+    pub put-room : length (find_lines (finds_at f z r o)) ≡ 3
+    unfolding threes
+    put-room = rw e refl
 
-  pub put_some : (out : List ℕ) (at k w : ℕ) → (k ≡ 0 → ⊥) → at + 3 ≤ length out → w ≡ be64 (rest_from f z r) 48
-      → set (set (set out at r) (at + 1) (r + k - 1)) (at + 2) w ≡ write out at (find_lines (finds_at f z r k))
-  unfolding threes
-  put_some out at zero w ne h e = absurd (ne refl)
-  put_some out at (suc k) w ne h e =
-      let l : r + suc k - 1 ≡ r + k = omega arith in
-      let t : at + 2 ≡ suc (suc at) = omega arith in
-      rw (l, e, add-one at, t) (stored (r ∷ (r + k) ∷ be64 (rest_from f z r) 48 ∷ []) out at h)
+    pub put_some : (out : List ℕ) (at w : ℕ) → at + 3 ≤ length out → w ≡ be64 (rest_from f z r) 48
+        → set (set (set out at r) (at + 1) (r + k - 1)) (at + 2) w ≡ write out at (find_lines (finds_at f z r o))
+    unfolding threes
+    put_some out at w h p =
+        let t : at + 2 ≡ suc (suc at) = omega arith in
+        rw (e, p, add-one at, t) (stored (r ∷ (r + k - 1) ∷ be64 (rest_from f z r) 48 ∷ []) out at h)
 
 -- ---- the walk that puts
 
@@ -191,12 +207,11 @@ module _ {f : List ℕ} {z : Sizes} {before : List ℕ} {end : ℕ} where
         ⊎_elim (λ (p : z.n + z.d < r). absurd (omega (arith, F.place, ap (λ (xs : List Find). length (find_lines xs)) (from_past f z r p)))) (λ (p : r ≤ z.n + z.d). p)
         (lt-or-ge (z.n + z.d) r)
 
-    module _ (B : Booted f z) (h : at < end) {k : ℕ} (e : k ≡ takes_at f z r) where
+    module _ (B : Booted f z) (h : at < end) {k : Option ℕ} (e : k ≡ some_number (takes_at f z r)) where
       -- what a turn puts, and what is then left, make up what was left
       length-next : length (find_lines (find_from f z r)) ≡ length (find_lines (finds_at f z r k)) + length (find_lines (find_from f z (after_of r k)))
       length-next =
-          rw e
-          (ap length (lines_next f z r (fill-within h)) ∙ length-append (find_lines (finds_at f z r (takes_at f z r))) (find_lines (find_from f z (after_of r (takes_at f z r)))))
+          ap length (lines_next f z r e (fill-within h)) ∙ length-append (find_lines (finds_at f z r k)) (find_lines (find_from f z (after_of r k)))
 
       pub fill-room : at + length (find_lines (finds_at f z r k)) ≤ length after
       fill-room = omega (arith, length-next, F.place, F.fits, F.as_long)
@@ -209,12 +224,12 @@ module _ {f : List ℕ} {z : Sizes} {before : List ℕ} {end : ℕ} where
           let room = fill-room in
           rw (p, q, w)
           (record {
-            past = omega (arith, further r k, F.past);
-            within = no-further r k (z.n + z.d) (fill-within h) (omega (arith, takes-within f z r B (omega (arith, F.past)) (fill-within h)));
+            past = omega (arith, further r (takes_at f z r) e, F.past);
+            within = no-further r (takes_at f z r) e (z.n + z.d) (fill-within h) (takes-within f z r B (omega (arith, F.past)) (fill-within h));
             place = omega (arith, length-next, F.place);
             fits = F.fits;
             as_long = length-write after at a room ∙ F.as_long;
-            holds = write-next after at a b (omega arith) ∙ ap (write after at) (sym (rw e (lines_next f z r (fill-within h)))) ∙ F.holds;
+            holds = write-next after at a b (omega arith) ∙ ap (write after at) (sym (lines_next f z r e (fill-within h))) ∙ F.holds;
           })
 
     pub fill_end : end ≤ at → after ≡ write before 0 (find_lines (find_of f z))

@@ -1,23 +1,23 @@
--- A turn of the walk, by how many records the scan has that begins at a record, or 0 where none does; and how far the two walks have come.
-use Rattle.std.specs.Prelude.{ℕ, zero, suc, ◌+◌, ◌≤◌, ◌<◌, ◌≡◌, List, [], ◌∷◌, length}
+-- A turn of the walk, by how many records the scan has that begins at a record, or none where none does; and how far the two walks have come.
+use Rattle.std.specs.Prelude.{ℕ, ◌+◌, ◌-◌, ◌≤◌, ◌<◌, ◌≡◌, Option, Some, None, List, [], ◌∷◌, length}
 use Rattle.lent.specs.Write.{write}
 use Rattle.paper.specs.declared.sizes.Sizes.{Sizes}
 use Rattle.paper.specs.Find.{Find, find_at, find_from, find_of, find_lines}
 
 -- how many are found there
-abbrev pub one_if : ℕ → ℕ
-one_if zero = 0
-one_if (suc k) = 1
+abbrev pub one_if : Option ℕ → ℕ
+one_if None = 0
+one_if (Some k) = 1
 
 -- the record to look at after it
-abbrev pub after_of : ℕ → ℕ → ℕ
-after_of r zero = r + 1
-after_of r (suc k) = r + suc k
+abbrev pub after_of : ℕ → Option ℕ → ℕ
+after_of r None = r + 1
+after_of r (Some k) = r + k
 
 -- what is found there
-abbrev pub finds_at : List ℕ → Sizes → ℕ → ℕ → List Find
-finds_at f z r zero = []
-finds_at f z r (suc k) = find_at f z r (r + k) ∷ []
+abbrev pub finds_at : List ℕ → Sizes → ℕ → Option ℕ → List Find
+finds_at f z r None = []
+finds_at f z r (Some k) = find_at f z r (r + k - 1) ∷ []
 
 -- the walk has come to record r, and n scans were found
 pub record Counted (f : List ℕ) (z : Sizes) (n r : ℕ) : Type 0 where

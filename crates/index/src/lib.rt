@@ -1,4 +1,5 @@
 //! A file judged: its bootstrap, then its index by one pass over the entries, which leaves their runs in a row.
+//! Row and marks are lent slices and stay so: C lends the row, and memory is fixed.
 #![tactic(auto)]
 
 ghost use Rattle.std.specs.Prelude.{◌≡◌, ◌*◌, ◌≤◌};

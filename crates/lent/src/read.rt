@@ -17,6 +17,7 @@ pub fn word16(s: &[u8], at: usize) -> u16
     u16::from_be_bytes([byte(s, at), byte(s, at + 1)])
 }
 
+// The number and its bound in one fact, which the goals for overflow use; `as` alone says neither. wide likewise.
 fn half(x: u8) -> u16
     ensures { Plain x 256 result }
 {
@@ -24,6 +25,7 @@ fn half(x: u8) -> u16
 }
 
 // Two bytes that are all there.
+// By sums as in load32, for the same reason.
 pub fn load16(s: &[u8], at: usize) -> u16
     requires { at + 2 ≤ length s.now }
     ensures { result ≡ be16 s.now at }
@@ -46,6 +48,7 @@ pub fn load32(s: &[u8], at: usize) -> u32
     wide(s[at]) * 16777216 + wide(s[at + 1]) * 65536 + wide(s[at + 2]) * 256 + wide(s[at + 3])
 }
 
+// By halves near the end of what is lent: with a test for each byte the search in junk takes longer. word64 likewise.
 pub fn word32(s: &[u8], at: usize) -> u32
     ensures { result ≡ be32 s.now at }
 {

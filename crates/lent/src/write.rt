@@ -30,6 +30,7 @@ pub fn zero_to(file: &mut [u8], at: usize, n: usize)
 }
 
 // A 16-bit number, the highest byte first.
+// One line for each width: a trait would hold the same line, and ghost members beside it.
 pub fn put16(file: &mut [u8], at: usize, half: u16)
     requires { at + 2 ≤ length file.old }
     ensures { file.new ≡ write file.old at (bytes big 2 half) }

@@ -5,6 +5,7 @@ ghost use Rattle.look.specs.Put.{Put};
 ghost use Rattle.listing.specs.Text.{field_of, one_of, two_of, three_of};
 
 // A number in decimal: what stands before its last digit, and then that.
+// Into lent memory, and proved byte by byte: no Display writes there.
 fn number(out: &mut [u8], at: usize, n: usize) -> usize
     requires { at + length (decimal n) ≤ length out.old }
     ensures { Put out.old at (decimal n) out.new result }

@@ -40,7 +40,7 @@ pub fn show(file: &[u8], slot: usize) -> Result<(usize, usize), Refusal>
     span::shown(file, slot)
 }
 
-// That part of the file, empty where `show` refuses.
+// That part of the file, empty where `show` refuses. It and `read_part` are calls of the paper, each by its name.
 pub fn show_part(file: &[u8], slot: usize) -> &[u8]
     ensures bytes { result.now ≡ part_of file.now (show_of file.now slot) }
     ensures place { result.ref_ptr ≡ bytes_on (span_place file.now (show_of file.now slot)) file.entry.ref_ptr }

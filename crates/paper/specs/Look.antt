@@ -9,7 +9,6 @@ use Rattle.paper.specs.declared.sizes.Run.{Run}
 use Rattle.paper.specs.declared.refusal.Refusal.{Refusal}
 use Rattle.paper.specs.declared.refusal.Refusal.TheVariants.{NoSuchSlot, EmptySlot, TooSmall, NotVersionOne}
 use Rattle.paper.specs.declared.entry.Entry.{Entry}
-use Rattle.paper.specs.declared.entry.Entry.{Entry}
 use Rattle.paper.specs.Answers.{Listed, Span, Ruled, Found}
 use Rattle.paper.specs.Sizes.{sizes_of, version_of, capacity_of, home_of, start_of}
 use Rattle.paper.specs.Index.{run_of, empty, slots_of, shown_of, open_checks}

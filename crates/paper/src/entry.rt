@@ -31,3 +31,23 @@ pub struct Entry {
     pub magic: i16,
     pub kind: Kind,
 }
+
+impl Entry {
+    pub const ZEROS: Entry = Entry {
+        first: 0,
+        last: 0,
+        horizontal: 0,
+        vertical: 0,
+        source: [0u8; 16],
+        scan: 0,
+        field4: 0,
+        field8: 0,
+        lst: 0,
+        date: 0,
+        mode: 0,
+        number: 0,
+        position: 0,
+        magic: 0,
+        kind: Kind::Other(0.0, 0.0),
+    };
+}

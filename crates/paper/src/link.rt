@@ -9,6 +9,7 @@ pub struct Link {
     // The byte at which the index ends; 0 as long as the bootstrap has not come, and where it breaks a rule.
     pub ends: usize,
     // The first 32 bytes, as far as they came.
+    // An array with its count beside it, as in the C struct; in a job likewise.
     pub boot: [u8; 32],
 }
 

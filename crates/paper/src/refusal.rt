@@ -28,6 +28,7 @@ pub enum Refusal {
 
 impl Refusal {
     // The paper's number.
+    // A From would hold the same match and would not say which of the two numbers it gives.
     pub fn number(self) -> usize
         ensures { result ≡ number_of self }
     {

@@ -3,6 +3,7 @@ ghost use Rattle.std.specs.Prelude.{◌≡◌};
 ghost use Rattle.paper.specs.Sizes.{capacity_of, record_of, place_of, home_of, room_of, Shaped, Slotted};
 
 // What the bootstrap's words say, in either form.
+// Version and kind are numbers: a file may state any, and refusals 3 and 4 judge them after they are read.
 #[derive(Clone, Copy)]
 pub struct Sizes {
     pub n: usize,
@@ -70,15 +71,12 @@ impl Sizes {
         requires { Shaped self }
         ensures { result ≡ room_of self len }
     {
-        let k = len / self.l;
-        if Sizes::MAX_RECORDS < k {
-            return Sizes::MAX_RECORDS;
-        }
-        k
+        (len / self.l).min(Sizes::MAX_RECORDS)
     }
 }
 
 // The records of one entry, first to last. Both are 0 where the entry is empty.
+// Not an Option: the file and the lent row hold the two zeros.
 #[derive(Clone, Copy)]
 pub struct Run {
     pub first: usize,

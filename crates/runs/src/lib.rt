@@ -28,7 +28,7 @@ fn rising(row: &[u32], z: Sizes) -> bool
     top <= z.n + z.d
 }
 
-// The lowest slot above U that is not empty.
+// The lowest slot above U that is not empty. Not shared with the file, whose search leaps over empty slots first; a row has nothing to leap by.
 fn lowest_above(row: &[u32], z: Sizes) -> Option<usize>
     requires { Ranged z × (8192 ≤ length row.now) }
     ensures { result ≡ some_number (least (above_at z (row_run row.now)) (capacity_of z)) }

@@ -26,7 +26,7 @@ pub fn data(run: &[u8]) -> Result<(usize, usize), Refusal>
     spans::data_span(run)
 }
 
-// The class itself, a part of what is lent; empty where the call above is refused.
+// The class itself, a part of what is lent; empty where the call above is refused. It and the data's are calls of the paper, each by its name.
 pub fn class_part(run: &[u8], number: usize) -> &[u8]
     ensures bytes { result.now ≡ part_of run.now (class_of run.now number) }
     ensures place { result.ref_ptr ≡ bytes_on (span_place run.now (class_of run.now number)) run.entry.ref_ptr }

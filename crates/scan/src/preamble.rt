@@ -21,7 +21,7 @@ pub fn classes(s: &[u8]) -> usize
     natural(read::int16(s, 0))
 }
 
-// The fifteen starts, the unused ones too, of a preamble that is all there: the compiler reads several at a time.
+// The fifteen starts, the unused ones too, of a preamble that is all there: the compiler reads several at a time. By value, with their number apart, as document 01 has them.
 pub fn starts(s: &[u8]) -> [i16; 15]
     requires { 32 ≤ length s.now }
     ensures { result ≡ starts_of s.now }

@@ -84,6 +84,7 @@ fn sum_kept(total: usize, size: usize, saving: bool) -> bool
 }
 
 // The first rule broken, or HEADLEN and DATALEN.
+// A broken rule is its number, which document 01 gives and refusal 11 hands on: an enum would be turned into it at once.
 pub fn judge(s: &[u8], saving: bool) -> Result<(usize, usize), usize>
     ensures { result ≡ ruled_of s.now saving }
 {

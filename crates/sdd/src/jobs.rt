@@ -22,7 +22,7 @@ pub extern "C" fn sdd_blank(file: &mut [u8], n: u64, l: u64, m: u64) -> Why
 pub fn flag(is: bool) -> u64
     ensures { result ≡ cond is 1 0 }
 {
-    if is { 1 } else { 0 }
+    u64::from(is)
 }
 
 // A job, in numbers.

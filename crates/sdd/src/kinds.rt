@@ -5,6 +5,7 @@ ghost use Rattle.paper.specs.Refusals.{kind_says};
 use paper::entry::Kind;
 
 // 0 other, 1 continuum, 2 spectral line.
+// Three fields of the C struct, each by its name: a From could give but one.
 pub fn number(k: Kind) -> u16
     ensures { result ≡ (kind_says k).number }
 {

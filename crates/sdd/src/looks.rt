@@ -2,7 +2,6 @@
 ghost use Rattle.std.specs.Prelude.{◌≡◌, length};
 ghost use Rattle.paper.specs.Index.{open_of};
 ghost use Rattle.paper.specs.Answers.{taken_in};
-ghost use Rattle.paper.specs.Entry.{no_entry};
 ghost use Rattle.paper.specs.Look.{listed_of, listed_out, found_of, show_of, read_of};
 ghost use Rattle.paper.specs.Gaps.{gaps_of};
 ghost use Rattle.paper.specs.Find.{report_of, report_out};
@@ -117,29 +116,6 @@ pub extern "C" fn sdd_find(file: &[u8], out: &mut [u64]) -> CListed
     counted(find::find(file, out))
 }
 
-// The entry of a refused call: all zeros.
-fn nothing() -> Entry
-    ensures { result ≡ no_entry }
-{
-    Entry {
-        first: 0,
-        last: 0,
-        horizontal: 0,
-        vertical: 0,
-        source: [0u8; 16],
-        scan: 0,
-        field4: 0,
-        field8: 0,
-        lst: 0,
-        date: 0,
-        mode: 0,
-        number: 0,
-        position: 0,
-        magic: 0,
-        kind: Kind::Other(0.0, 0.0),
-    }
-}
-
 // An entry's fields, in numbers.
 fn entry(why: Why, e: Entry) -> CEntry
     ensures { result ≡ entry_c why e }
@@ -175,7 +151,7 @@ fn found(f: Result<Entry, Refusal>) -> CEntry
 {
     match f {
         Ok(e) => entry(accepted(), e),
-        Err(r) => entry(why(r), nothing()),
+        Err(r) => entry(why(r), Entry::ZEROS),
     }
 }
 

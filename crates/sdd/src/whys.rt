@@ -28,6 +28,7 @@ pub fn why(r: Refusal) -> Why
     }
 }
 
+// TakenSmall is of each answer where it becomes numbers, and of no type.
 pub fn taken(t: Result<(), Refusal>) -> Why
     requires { TakenSmall t }
     ensures { result ≡ taken_c t }

@@ -72,6 +72,7 @@ fn confirmed(j: Job) -> Result<Step, Refusal>
 }
 
 // The file's judgement is not the job's word for it: the index is judged again, and its sizes serve the comparison.
+// By let .. else, as document 01 asks of this place.
 pub fn confirm(file: &[u8], scan: &[u8], j: Job) -> Result<Step, Refusal>
     requires { agrees file.now scan.now j ≡ true }
     ensures { result ≡ confirm_of file.now scan.now j (open_of file.now) }

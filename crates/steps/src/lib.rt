@@ -65,6 +65,7 @@ fn late_next(file: &mut [u8], z: Sizes, j: Job, k: usize) -> usize
 }
 
 // The write at the job's place in its list, of which the first k are the data records. It answers the record that it wrote.
+// The paper's list in its order, each write with its own law: no table of functions.
 fn write_next(file: &mut [u8], scan: &[u8], z: Sizes, j: Job, k: usize) -> usize
     requires booted { Booted file.old z }
     requires j_value { agrees file.old scan.now j ≡ true }

@@ -19,6 +19,7 @@ pub enum Goal {
 }
 
 // The index is decoded once: the judgement leaves its runs in the row, and in the marks where they do not rise.
+// A list of seven: a closure that captures a struct with a lifetime gets no clauses of its own.
 fn judged(
     file: &[u8],
     z: Sizes,

@@ -8,7 +8,7 @@ ghost use Rattle.entries.specs.Row.{Bare};
 
 use entries::file::File;
 
-// How far the slots from slot `top` down to slot `s` are empty, eight at a time: so are most of those above U.
+// How far the slots from slot `top` down to slot `s` are empty, eight at a time: so are most of those above U. A `while`, since a last part of a group is not leapt over.
 fn past_empty(file: File, top: usize, s: usize) -> usize
     requires { (top ≤ capacity_of file.z) × (s ≤ capacity_of file.z) }
     ensures { Bare file.entry.bytes.now file.entry.z result top }

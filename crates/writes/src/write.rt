@@ -27,7 +27,7 @@ pub fn wrote(number: usize, j: Job, boot: [u8; 32]) -> Stepped
     }
 }
 
-// A data record, padded with zeros where the scan ends in it.
+// A data record, padded with zeros where the scan ends in it. The file and its sizes stay apart here and below: a struct would hold the borrow that is written through.
 pub fn write_data(file: &mut [u8], scan: &[u8], z: Sizes, j: Job) -> usize
     requires { Rowed file.old z j }
     ensures value { result ≡ j.first + j.written }

@@ -1,4 +1,4 @@
-use Rattle.find.proofs.Walking.{further, takes-few, fill_start, fill-within, fill-room, fill-next, fill_end}
+use Rattle.find.proofs.Walking.{further, after-few, fill_start, fill-within, fill-room, fill-next, fill_end}
 use native.Mathlib.Omega.{arith}
 use Rattle.find.proofs.walk.fill.Goals as goal
 
@@ -15,23 +15,20 @@ put-at-requires c =
     let B = c.args.file.booted in
     let i = c.loop-at.invariant in
     let w = fill-within i (omega arith) in
-    record { r_bound = (omega (arith, i.past), w, omega (arith, c.takes-k.ensures, takes-few B _ (omega (arith, i.past)) w)); k_in_bounds = fill-room i B (omega arith) c.takes-k.ensures }
+    record { r_bound = (omega (arith, i.past), w, after-few B _ (omega (arith, i.past)) w c.takes-k.ensures); k_in_bounds = fill-room i B (omega arith) c.takes-k.ensures }
 
 pub after-r-requires : goal.after-r-requires
 after-r-requires c =
     let B = c.args.file.booted in
     let i = c.loop-at.invariant in
     let w = fill-within i (omega arith) in
-    (omega (arith, w, B.ranged.records), omega (arith, c.takes-k.ensures, takes-few B _ (omega (arith, i.past)) w))
+    after-few B _ (omega (arith, i.past)) w c.takes-k.ensures
 
 pub loop-at-smaller : goal.loop-at-smaller
-loop-at-smaller c = omega (arith, c.after-r.ensures, further c.loop-at.r c.takes-k.result, fill-within c.loop-at.invariant (omega arith))
+loop-at-smaller c = omega (arith, c.after-r.ensures, further c.loop-at.r _ c.takes-k.ensures, fill-within c.loop-at.invariant (omega arith))
 
 pub loop-at-preserved : goal.loop-at-preserved
 loop-at-preserved c = let p = c.put-at.ensures in fill-next c.loop-at.invariant c.args.file.booted (omega arith) c.takes-k.ensures p.value p.out_after c.after-r.ensures
-
-pub shape_of-out : goal.shape_of-out
-shape_of-out c = c.loop-at.invariant.as_long
 
 pub returns : goal.returns
 returns c = fill_end c.loop-at.invariant (omega arith)

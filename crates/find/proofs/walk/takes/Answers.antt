@@ -1,10 +1,7 @@
 use mathlib.Core.Path.{sym, ◌∙◌}
 use native.Mathlib.Omega.{arith}
-use Rattle.find.proofs.Walking.{record-in, start_small, takes-classes}
+use Rattle.find.proofs.Walking.{record-in, takes-classes}
 use Rattle.find.proofs.walk.takes.Goals as goal
-
-pub overflow_mul-at : goal.overflow_mul-at
-overflow_mul-at c = let p = c.requires in omega (arith, start_small c.args.file.booted _ p.0 p.1)
 
 pub load16-n-requires : goal.load16-n-requires
 load16-n-requires c = let p = c.requires in omega (arith, record-in c.args.file.booted _ p.0 p.1, c.args.file.booted.held, c.args.file.booted.ranged.shape.l_low)

@@ -7,4 +7,4 @@ pub returns-in-Ok : goal.returns-in-Ok
 returns-in-Ok c = rw (c.in-Ok.is, c.entry.ensures, c.accepted.ensures)
 
 pub returns-in-Err : goal.returns-in-Err
-returns-in-Err c = rw (c.in-Err.is, c.entry-in-Err.ensures, c.why.ensures, c.nothing.ensures)
+returns-in-Err c = rw (c.in-Err.is, c.entry-in-Err.ensures, c.why.ensures)
