@@ -1,5 +1,5 @@
 //! A file judged: its bootstrap, then its index by one pass over the entries, which leaves their runs in a row.
-//! Row and marks are lent slices and stay so: C lends the row, and memory is fixed.
+//! Row and marks are lent slices and stay so: C lends the row, and memory is fixed. What is known of them changes in the loops that keep it, so that it stands in contracts and in no type.
 #![tactic(auto)]
 
 ghost use Rattle.std.specs.Prelude.{◌≡◌, ◌*◌, ◌≤◌};

@@ -20,6 +20,7 @@ pub fn same(a: &[u8], b: &[u8]) -> bool
 }
 
 // All zeros: the bytes are joined and tried once. The loop has no early end, so that the compiler joins many bytes at a time: they are mostly zeros.
+// No method of a slice asks this, nor what same_padded does.
 pub fn all_zero(a: &[u8]) -> bool
     ensures { result ≡ same a.now (zeros (length a.now)) }
 {

@@ -3,7 +3,7 @@ ghost use Rattle.std.specs.Prelude.{◌≡◌, ◌+◌, ◌≤◌, length};
 ghost use Rattle.lent.specs.Number.{big, bytes};
 ghost use Rattle.lent.specs.Write.{write, zeros, pad};
 
-// All of `dst` becomes `src`. The compiler makes this loop one over many bytes; a call of the library's copy takes longer for the bytes of a scan.
+// All of `dst` becomes `src`. The compiler makes this loop one over many bytes.
 fn copy(dst: &mut [u8], src: &[u8])
     requires { length dst.old ≡ length src.now }
     ensures { dst.new ≡ src.now }
@@ -13,6 +13,7 @@ fn copy(dst: &mut [u8], src: &[u8])
     }
 }
 
+// A place and the whole of the run afterwards in one equation, which no method of a slice says. So do zero_to and put_padded.
 pub fn copy_to(file: &mut [u8], at: usize, src: &[u8])
     requires { at + length src.now ≤ length file.old }
     ensures { file.new ≡ write file.old at src.now }

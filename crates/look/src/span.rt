@@ -44,7 +44,7 @@ fn scan_in(file: &[u8], from: usize, to: usize) -> Result<(usize, usize), Refusa
     Ok((from, from + (head + rest)))
 }
 
-// The span of a slot's scan: of version 1, and by the rules.
+// The span of a slot's scan: of version 1, and by the rules. One function with shown would take a switch in place of the name.
 pub fn scanned(file: &[u8], slot: usize) -> Result<(usize, usize), Refusal>
     ensures { result ≡ read_of file.now slot }
 {
