@@ -1,10 +1,11 @@
 -- The answers of the bootstrap's judgement, one law for each return.
 use Rattle.std.specs.Prelude.{Ok, Err}
-use Prim.Native.Nat.{ℕ, ◌≤◌, ◌<◌}
+use Prim.Native.Nat.{ℕ, ◌-◌, ◌*◌, ◌≤◌, ◌<◌}
 use mathlib.Core.Path.{◌≡◌, sym, ◌∙◌, ap, refl}
 use mathlib.Core.Bool.{Bool, true, false, not}
 use mathlib.Core.List.{List}
 use native.Mathlib.Omega.{arith}
+use native.Mathlib.Nat.{mul-le-mul}
 use lib.ListN.{length}
 use borrow.Author.Tests.{lt-ltb, le-ltb, not-true, not-false}
 use native.Mathlib.Decide.{dec_le}
@@ -86,6 +87,10 @@ shape-broken z e h = not-ranged z (λ r. true≢false (facts-shaped z r.shape) (
 
 pub range-kept : (z : Sizes) {b : Bool} → b ≡ in_range z → not b ≡ false → Ranged z
 range-kept z e h = range-facts z (sym e ∙ not-false _ h)
+
+-- the bytes of the index, before the capacity is known
+pub index-bytes : (z : Sizes) → z.n ≤ 513 → z.l ≤ 4096 → (z.n - 1) * z.l ≤ 2097152
+index-bytes z a b = let p : (z.n - 1) * z.l ≤ 512 * 4096 = mul-le-mul {n₁ = z.n - 1} {n₂ = 512} (omega arith) b in p
 
 module _ (len : ℕ) (z : Sizes) where
   pub sized-unknown : 1 < z.version → Err UnknownForm ≡ sized_of len z

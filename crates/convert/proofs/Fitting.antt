@@ -105,12 +105,12 @@ module _ (v : ℕ) (f : List ℕ) (z : Sizes) where
 -- ---- going old
 
 module _ (f : List ℕ) (z : Sizes) (S : Sound f z) (b : Bool) (test : b ≡ ltb 0 (least (wide_run (run_of f z)) z.u)) where
-  old-wide : b ≡ true → false ≡ fits_form 0 f z
+  pub old-wide : b ≡ true → false ≡ fits_form 0 f z
   old-wide e =
       form-no 0 f z S
       (λ o A. true≢false (sym test ∙ e) (none-test (wide_run (run_of f z)) z.u (λ s l h t. true≢false t (facts-narrow (run_of f z) s (A.narrow refl s l h)))))
 
-  old-fits : z.version ≡ 1 → z.kind ≡ 0 → z.d ≤ 32767 → z.counter ≤ 65535 → b ≡ false → true ≡ fits_form 0 f z
+  pub old-fits : z.version ≡ 1 → z.kind ≡ 0 → z.d ≤ 32767 → z.counter ≤ 65535 → b ≡ false → true ≡ fits_form 0 f z
   old-fits v k d n e =
       form-yes 0 f z (λ h. omega arith)
       (record {
@@ -129,7 +129,7 @@ old-told f z S false q v k d n = old-fits f z S false q v k d n refl
 -- ---- going to the current form
 
 module _ (f : List ℕ) (z : Sizes) (S : Sound f z) (b : Bool) (test : b ≡ ltb 0 (least (other_magic f z) z.u)) where
-  current-other : b ≡ true → false ≡ fits_form 1 f z
+  pub current-other : b ≡ true → false ≡ fits_form 1 f z
   current-other h =
       form-no 1 f z S
       (λ o A.

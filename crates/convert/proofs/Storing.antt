@@ -1,6 +1,6 @@
 -- The entry of a slot, by what was read of it and stored.
 use Prim.Native.Nat.{ℕ, ◌+◌, ◌*◌, ◌/◌, ◌%◌, ◌≤◌, ◌<◌}
-use mathlib.Core.Path.{◌≡◌, refl, sym, ◌∙◌, ap}
+use mathlib.Core.Path.{◌≡◌, refl, sym, ◌∙◌, ap, subst}
 use mathlib.Core.Bool.{Bool, true, false, cond}
 use mathlib.Core.List.{List, [], ◌∷◌, ◌++◌, append_assoc}
 use mathlib.Core.Logic.{⊎_elim}
@@ -135,6 +135,14 @@ reads_in v f z s out G = let B = G.slot.booted in omega (arith, home-in B s G.sl
 pub told_in : (v : ℕ) (f : List ℕ) (z : Sizes) (s out at : ℕ) → Goes v f z s out → at ≡ home_of z s → Told at (length f) out
 told_in v f z s out at G e =
     record { from = omega (arith, reads_in v f z s out G); to = omega (arith, G.within, G.slot.booted.ranged.shape.m_low) }
+
+-- the same of the number that the form is
+pub goes-as : (v w : ℕ) (f : List ℕ) (z : Sizes) (s out : ℕ) → v ≡ w → Goes v f z s out → Goes w f z s out
+goes-as v w f z s out e G = subst (λ (x : ℕ). Goes x f z s out) e G
+
+pub told-as : (v w : ℕ) (f : List ℕ) (z : Sizes) (s : ℕ) (out g : List ℕ) → v ≡ w → g ≡ write out (home_of z s) (told w (carried_at f z s))
+    → g ≡ write out (home_of z s) (told v (carried_at f z s))
+told-as v w f z s out g e p = p ∙ ap (λ (x : ℕ). write out (home_of z s) (told x (carried_at f z s))) (sym e)
 
 module _ (v : ℕ) (f : List ℕ) (z : Sizes) (s : ℕ) (out : List ℕ) (at : ℕ) (G : Goes v f z s (length out)) (home : at ≡ home_of z s) where
   abbrev run : Run

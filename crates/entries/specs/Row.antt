@@ -45,9 +45,9 @@ pub record Fits (z : Sizes) (run : ℕ → Run) (i : ℕ) : Type 0 where
   pub bad : None (bad_at z run) i
   pub shared : None (shared_at run) i
 
--- o is the judgement of each index whose slots in use are those of the row, and whose lowest slot above U that is not empty is `above`
-pub record Judged (row : List ℕ) (z : Sizes) (above : Option ℕ) (o : Opened) : Type 0 where
-  pub is : (run : ℕ → Run) → ((s : ℕ) → 1 ≤ s → s ≤ z.u → row_run row s ≡ run s) → above ≡ some_number (least (above_at z run) (capacity_of z)) → o ≡ index_of z run
+-- o is the judgement of each index whose slots in use are those of the row, and whose lowest slot above U that is not empty is what `says` allows
+pub record Judged (row : List ℕ) (z : Sizes) (says : Option ℕ → Type 0) (o : Opened) : Type 0 where
+  pub is : (run : ℕ → Run) → ((s : ℕ) → 1 ≤ s → s ≤ z.u → row_run row s ≡ run s) → ((above : Option ℕ) → says above → above ≡ some_number (least (above_at z run) (capacity_of z))) → o ≡ index_of z run
 
 -- the slots after slot i, up to slot j, are empty
 pub record Bare (f : List ℕ) (z : Sizes) (i j : ℕ) : Type 0 where

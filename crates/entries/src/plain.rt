@@ -2,7 +2,7 @@
 ghost use Rattle.std.specs.Prelude.{◌≡◌, ◌*◌, ◌≤◌, length};
 ghost use Rattle.lent.specs.Least.{least, some_number, None};
 ghost use Rattle.paper.specs.Sizes.{capacity_of, Ranged};
-ghost use Rattle.paper.specs.Index.{run_of, row_run, bad_at, above_at, shared_at, index_of};
+ghost use Rattle.paper.specs.Index.{run_of, row_run, bad_at, above_at, shared_at, index_of, Booted};
 ghost use Rattle.entries.specs.Row.{InRow, Runs, Fits, Judged};
 
 use super::file::File;
@@ -51,22 +51,24 @@ pub fn lowest_shared(row: &[u32], z: Sizes, from: usize) -> Option<usize>
     None
 }
 
-// Refusals 6 to 8, or the sizes, where slot `above` is the lowest above U that is not empty. The first `from` slots are known to break no rule.
-pub fn judge_with(
+// Refusals 6 to 8, or the sizes. The first `from` slots are known to break no rule. `above` answers the lowest slot above U that is not empty; it may look
+// at all of them, and is asked only where no slot up to U is bad.
+pub fn judge_with<F: FnOnce() -> Option<usize>>(
     row: &[u32],
     z: Sizes,
     from: usize,
-    above: Option<usize>,
+    above: F,
 ) -> Result<Sizes, Refusal>
     requires ranged { Ranged z }
     requires u_in_bounds { (2 * z.u ≤ length row.now) × (from ≤ z.u) }
     requires fits { Fits z (row_run row.now) from }
-    ensures { Judged row.now z above result }
+    requires may { F.pre above }
+    ensures { Judged row.now z (F.post above) result }
 {
     if let Some(bad) = lowest_bad(row, z, from) {
         return Err(Refusal::BadEntry(bad));
     }
-    if let Some(s) = above {
+    if let Some(s) = above() {
         return Err(Refusal::AboveUse(s));
     }
     if let Some(shared) = lowest_shared(row, z, from) {
@@ -109,6 +111,15 @@ impl<'a> File<'a> {
         requires fits { Fits self.z (run_of self.bytes.now self.z) from }
         ensures { result ≡ index_of self.entry.z (run_of self.entry.bytes.now self.entry.z) }
     {
-        judge_with(row, self.z, from, self.lowest_above())
+        let File { bytes, z } = self;
+        judge_with(
+            row,
+            z,
+            from,
+            || -> Option<usize>
+                requires { Booted bytes.now z }
+                ensures { result ≡ some_number (least (above_at z (run_of bytes.entry.now z)) (capacity_of z)) }
+            { File { bytes, z }.lowest_above() },
+        )
     }
 }

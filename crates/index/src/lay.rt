@@ -59,7 +59,7 @@ fn lay_on(file: File, j: usize, row: &mut [u32], marks: &mut [u64]) -> usize
         if !lodge_to(a, top, &mut *marks) {
             return i;
         }
-        i = super::skip::skip(file, a, i + 1, &mut *row);
+        i = super::skip::skip(&file, a, i + 1, &mut *row);
     }
     i
 }

@@ -56,7 +56,7 @@ pub fn rise(file: File, row: &mut [u32]) -> usize
             return within(i, top, file.z);
         }
         top = higher(top, a.last);
-        i = super::skip::skip(file, a, i + 1, &mut *row);
+        i = super::skip::skip(&file, a, i + 1, &mut *row);
     }
     within(i, top, file.z)
 }

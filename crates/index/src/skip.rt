@@ -18,23 +18,24 @@ fn blank(file: File, i: usize, j: usize, row: &mut [u32])
     }
 }
 
-// Goes past the empty slots after slot `i`. Most slots of a judged file are not empty: the way here stays out of the loop that calls `skip`.
+// Goes past the empty slots after slot `i`. Most slots of a judged file are not empty: the way here stays out of the loop that calls `skip`, and the file is not copied
+// for it.
 #[cold]
 #[inline(never)]
-fn past(file: File, i: usize, row: &mut [u32]) -> usize
-    requires { Decoded file.bytes.now file.z row.old i }
-    ensures { Skipped file.entry.bytes.now file.entry.z row.new i result }
+fn past(file: &File, i: usize, row: &mut [u32]) -> usize
+    requires { Decoded file.now.bytes.now file.now.z row.old i }
+    ensures { Skipped file.now.bytes.now file.now.z row.new i result }
 {
     let u = file.z.u;
     let j = file.past_empty(i, u);
-    blank(file, i, j, row);
+    blank(*file, i, j, row);
     j
 }
 
 // The same where the run just read, that of slot `i`, is empty.
-pub fn skip(file: File, a: Run, i: usize, row: &mut [u32]) -> usize
-    requires { Decoded file.bytes.now file.z row.old i }
-    ensures { Skipped file.entry.bytes.now file.entry.z row.new i result }
+pub fn skip(file: &File, a: Run, i: usize, row: &mut [u32]) -> usize
+    requires { Decoded file.now.bytes.now file.now.z row.old i }
+    ensures { Skipped file.now.bytes.now file.now.z row.new i result }
 {
     if a.last != 0 {
         return i;

@@ -1,5 +1,5 @@
 -- The laws of tests in a row, of `table`, of `every`, of `those` and of `threes`.
-use Rattle.std.proofs.Common.{◌≡◌, ℕ, zero, suc, ◌+◌, ◌*◌, ◌<◌, ◌≤◌, Bool, true, false, cond, ◌≢◌, ◌⊎◌, List, [], ◌∷◌, ◌++◌, length, get_or, take, set, sym, refl, ap, ◌∙◌, inl, inr, ⊎_elim, append-nil, add-one, arith, length-append, take_all, take-suc-set}
+use Rattle.std.proofs.Common.{◌≡◌, ℕ, zero, suc, ◌+◌, ◌*◌, ◌<◌, ◌≤◌, Bool, true, false, cond, ◌≢◌, ◌⊎◌, List, [], ◌∷◌, ◌++◌, length, get_or, take, set, sym, refl, ap, ◌∙◌, inl, inr, ⊎_elim, append-nil, add-one, arith, length-append, take_all, take-suc-set, ext_get_or}
 use mathlib.Core.List.Memᴰ
 use mathlib.Core.List.{Memᴰ}
 use native.Mathlib.Decide.{dec_le, ℕ_discrete}
@@ -64,6 +64,10 @@ pub also-false : (a : Bool) → also a false ≡ false
 also-false true = refl
 also-false false = refl
 
+pub also-same : (t a b : Bool) → (t ≡ true → a ≡ b) → also t a ≡ also t b
+also-same true a b h = h refl
+also-same false a b h = refl
+
 pub also-assoc : (a b c : Bool) → also a (also b c) ≡ also (also a b) c
 also-assoc true b c = refl
 also-assoc false b c = refl
@@ -119,6 +123,11 @@ fill_more a k v f l e h = rw (table_more, add-one, take-suc-set a k v l, h, e)
 
 pub filled : {A : Type 0} (a : List A) (n : ℕ) (f : ℕ → A) → length a ≤ n → take n a ≡ table n f → a ≡ table n f
 filled a n f l h = sym (take_all n a l) ∙ h
+
+pub table-list : {A : Type 0} (s : List A) (d : A) (n : ℕ) → n ≡ length s → table n (λ i. get_or s i d) ≡ s
+table-list {A} s d n e =
+    let f : ℕ → A = λ i. get_or s i d in
+    ext_get_or d (table n f) s (length-table n f ∙ e) (λ i h. table_at n f i d (rw (length-table n f) at h))
 
 -- ---- a test of every number below n
 

@@ -3,8 +3,8 @@ use Rattle.std.proofs.Common.{◌≡◌, ℕ, zero, suc, ◌+◌, ◌-◌, ◌*�
 use lib.ListN.{length-replicate, get_or-append, get_or-eq_default}
 use lib.Seq.{sets, sets-eq}
 use Rattle.lent.specs.Write.{write, zeros, pad}
-use Rattle.lent.specs.Lists.{threes}
-use Rattle.lent.proofs.Lists.{lt-or-ge, length-threes, threes-at}
+use Rattle.lent.specs.Lists.{table, threes}
+use Rattle.lent.proofs.Lists.{lt-or-ge, length-table, table_at, length-threes, threes-at}
 
 -- ---- zeros
 
@@ -21,6 +21,11 @@ get_or-zeros (suc n) (suc i) = get_or-zeros n i
 -- bytes that are all 0
 pub all-zeros : (n : ℕ) (xs : List ℕ) → length xs ≡ n → ((i : ℕ) → i < n → get_or xs i 0 ≡ 0) → xs ≡ zeros n
 all-zeros n xs e h = ext_get_or 0 xs (zeros n) (e ∙ sym (length-zeros n)) (λ i k. h i (rw e at k) ∙ sym (get_or-zeros n i))
+
+pub table-zeros : (n : ℕ) → table n (λ i. 0) ≡ zeros n
+table-zeros n =
+    let f : ℕ → ℕ = λ i. 0 in
+    ext_get_or 0 (table n f) (zeros n) (length-table n f ∙ sym (length-zeros n)) (λ i h. table_at n f i 0 (rw (length-table n f) at h) ∙ sym (get_or-zeros n i))
 
 -- ---- where the bytes go within the length: the place `at` is at most the length
 

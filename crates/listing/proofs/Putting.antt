@@ -22,5 +22,8 @@ pub room-here : (xs ys : List ℕ) (p n : ℕ) → p + length (xs ++ ys) ≤ n �
 room-here xs ys p n h = omega (arith, length-append xs ys)
 
 module _ {a : List ℕ} {p : ℕ} {xs b : List ℕ} {q : ℕ} (h : Put a p xs b q) where
+  pub room_after : (ys : List ℕ) → p + length (xs ++ ys) ≤ length a → q + length ys ≤ length b
+  room_after ys room = omega (arith, length-append xs ys, h.place, put-length (room-here xs ys p (length a) room) h)
+
   pub put-more : {ys c : List ℕ} {r : ℕ} → p + length (xs ++ ys) ≤ length a → Put b q ys c r → Put a p (xs ++ ys) c r
   put-more {ys} room k = put_then (room-here xs ys p (length a) room) h k

@@ -120,6 +120,9 @@ list-short f = go (open_of f) refl
 
 -- ---- what was put is the text
 
+pub refused-put : (r : Refusal) {l m : List ℕ} {k n v : ℕ} → n ≡ number_of r → v ≡ value_of r → Put l 0 (two_of refused_word n slot_word v) m k → Put l 0 (refused_of r) m k
+refused-put r p q h = rw (p, q) at h
+
 -- the text lies within what it was put into
 pub text-within : (t l m : List ℕ) (r : ℕ) → r ≡ length t → m ≡ write l 0 t → r ≤ length m
 text-within t l m r p q = omega (arith, ap length q, length-write-max l 0 t (omega arith))

@@ -48,7 +48,15 @@ fn judge_from(row: &[u32], z: Sizes, from: usize) -> Result<Sizes, Refusal>
     requires from_le_u { (from ≤ z.u) × Fits z (row_run row.now) from }
     ensures { result ≡ index_of z (row_run row.now) }
 {
-    entries::plain::judge_with(row, z, from, lowest_above(row, z))
+    entries::plain::judge_with(
+        row,
+        z,
+        from,
+        || -> Option<usize>
+            requires { Ranged z × (8192 ≤ length row.now) }
+            ensures { result ≡ some_number (least (above_at z (row_run row.entry.now)) (capacity_of z)) }
+        { lowest_above(row, z) },
+    )
 }
 
 // How many slots break no rule, as far as marks can tell.

@@ -10,11 +10,17 @@ use std::io::Read;
 // A line holds in hexadecimal the length (from column 0), the byte to fill from (column 7) and the first 48 bytes (column 10).
 const LINE: usize = 107;
 
-// What a hexadecimal digit counts; 0 for any other byte.
+// No more lines than these are expanded, whatever follows them.
+const LINES: usize = 600;
+
+// What a hexadecimal digit counts; 0 for any other byte, a capital letter too.
 fn digit(b: u8) -> usize
     ensures { result < 16 }
 {
-    (b as char).to_digit(16).unwrap_or(0) as usize
+    match b {
+        b'A'..=b'F' => 0,
+        _ => (b as char).to_digit(16).unwrap_or(0) as usize,
+    }
 }
 
 // The number in n columns, of at most five digits.
@@ -130,7 +136,7 @@ fn read_full(input: &mut impl Read, room: &mut [u8]) -> io::Result<usize>
 fn main(rt: HostRuntime) -> io::Result<()> {
     let mut buf = [0u8; 65536];
     let n = read_full(&mut rt.stdin(), &mut buf)?;
-    for line in buf[..n].chunks_exact(LINE) {
+    for line in buf[..n.min(LINES * LINE)].chunks_exact(LINE) {
         expand(&rt, line)?;
     }
     Ok(())

@@ -2,4 +2,4 @@ use mathlib.Core.Path.{refl}
 use Rattle.runs.proofs.judge_from.Goals as goal
 
 pub returns : goal.returns
-returns c = c.judge_with.ensures.is _ (λ s a b. refl) c.lowest_above.ensures
+returns c = c.judge_with.ensures.is _ (λ s a b. refl) (λ a p. p)

@@ -10,8 +10,15 @@ returns-then-b-a c =
       last = old-word _ _ 1 _ _ _ c.spread.ensures.1 _ (omega arith) c.load16-b.ensures refl;
     }
 
-pub returns : goal.returns
-returns c =
+pub returns-then-b-gt32766 : goal.returns-then-b-gt32766
+returns-then-b-gt32766 c =
+    record {
+      first = old-word _ _ 0 _ _ _ c.spread-then-b-gt32766.ensures.0 _ (omega arith) c.load16-a.ensures refl;
+      last = old-word _ _ 1 _ _ _ c.spread-then-b-gt32766.ensures.1 _ (omega arith) c.load16-b.ensures refl;
+    }
+
+pub returns-else-b-gt32766 : goal.returns-else-b-gt32766
+returns-else-b-gt32766 c =
     record {
       first = old-word _ _ 0 _ _ _ (not_negative _ (omega arith)) _ (omega arith) c.load16-a.ensures refl;
       last = old-word _ _ 1 _ _ _ (not_negative _ (omega arith)) _ (omega arith) c.load16-b.ensures refl;
